@@ -1,0 +1,6 @@
+pub mod Order
+pub mod Exact
+pub mod Whole
+pub mod Patterns
+pub mod Float
+pub mod Meaning
