@@ -1,4 +1,5 @@
 pub mod Order
+pub mod Tally
 pub mod Exact
 pub mod Whole
 pub mod Patterns

@@ -1,0 +1,3 @@
+pub mod Terrain
+pub mod Window
+pub mod Nearest

@@ -1,0 +1,70 @@
+-- What each call of a box asks, answers and leaves.
+use mathlib.Core.Path.{_≡_}
+use mathlib.Core.Bool.{Bool, false, _&&_}
+use mathlib.Core.List.{List, [], _∷_, _++_, map}
+use Prim.Native.Nat.{ℕ, _+_, _*_, _<_}
+use lib.Dec.{eqb, leb, ltb}
+use lib.ListN.{length, drop}
+use Rattle.std.specs.Options.{isSome}
+use Rattle.std.specs.Results.{isOk}
+use Rattle.std.specs.declared.option.Option.{Option}
+use Rattle.std.specs.declared.option.Option.the-variants.{Some, None}
+use Rattle.std.specs.declared.result.Result.{Result}
+use Rattle.std.specs.declared.result.Result.the-variants.{Ok, Err}
+use Rattle.heights.specs.Meaning.{Storage}
+use Rattle.grid.specs.declared.Higher.{Higher}
+use Rattle.grid.specs.declared.Plan.{Plan}
+use Rattle.grid.specs.declared.CellRecord.{CellRecord}
+use Rattle.grid.specs.Nearest.{Nearest}
+use Rattle.siting_box.specs.declared.denial.Denial.{Denial}
+use Rattle.siting_box.specs.declared.denial.Denial.the-variants.{NoPlan, Sizes, TooFewRecords, Outside, StoredLength, Unread}
+use Rattle.siting_box.specs.Contents.{Contents, lawfulSizes, terrainOf}
+use Rattle.siting_box.specs.Stored.{readFirst}
+use Rattle.siting_box.specs.Fresh.{fresh}
+
+-- 1: does the box hold a plan
+abbrev pub holdsPlan : {X : Type 0} → Contents X → Bool
+holdsPlan b = isSome (b .plan)
+
+-- 4: is the cell in the plan
+abbrev pub hasCell : Option Plan → (x y : ℕ) → Bool
+hasCell None x y = false
+hasCell (Some p) x y = ltb x (p .width) && ltb y (p .rows)
+
+-- what open asks: 2 the sizes, 3 the records fitted, 5 the number of bytes, 6 that each stored height reads
+abbrev pub openQuestions : {X C : Type 0} → Storage X C → Contents X → (width rows radius : ℕ) → List ℕ → List (ℕ × Bool)
+openQuestions k b width rows radius bytes =
+    (2, lawfulSizes width rows radius)
+    ∷ ((3, leb (width * rows) (length (b .records)))
+    ∷ ((5, eqb (length bytes) (width * rows * k .wide))
+    ∷ ((6, isOk (readFirst k bytes (width * rows))) ∷ [])))
+
+-- what an accepted open leaves: the plan with no row swept, the heights read with counts 0, and the records beyond as they were
+pub record Opened {X C : Type 0} (k : Storage X C) (width rows radius : ℕ) (bytes : List ℕ) (before after : Contents X) : Type 0 where
+  pub heights : List X
+  pub read : readFirst k bytes (width * rows) ≡ Ok heights
+  pub plan : after .plan ≡ Some (record { width = width; rows = rows; radius = radius; swept = 0 })
+  pub records : after .records ≡ map fresh heights ++ drop (width * rows) (before .records)
+
+-- a denial by question 6 carries the cause and the cell of the first stored height that does not read; others carry nothing
+abbrev pub Blames : {X C : Type 0} → Storage X C → (width rows : ℕ) → List ℕ → Denial C → Type 0
+Blames k width rows bytes NoPlan = Unit {0}
+Blames k width rows bytes Sizes = Unit {0}
+Blames k width rows bytes TooFewRecords = Unit {0}
+Blames k width rows bytes Outside = Unit {0}
+Blames k width rows bytes StoredLength = Unit {0}
+Blames k width rows bytes (Unread cause x y) = (x < width) × (readFirst k bytes (width * rows) ≡ Err (y * width + x, cause))
+
+-- what open leaves: a denied open changes nothing
+abbrev pub OpenLeaves : {X C : Type 0} → Storage X C → (width rows radius : ℕ) → List ℕ → (before after : Contents X) → Result Unit (Denial C) → Type 0
+OpenLeaves k width rows radius bytes before after (Ok answer) = Opened k width rows radius bytes before after
+OpenLeaves k width rows radius bytes before after (Err denial) = (after ≡ before) × Blames k width rows bytes denial
+
+-- what nearest asks: 1 the plan, 4 the cell
+abbrev pub nearestQuestions : {X : Type 0} → Contents X → (x y : ℕ) → List (ℕ × Bool)
+nearestQuestions b x y = (1, holdsPlan b) ∷ ((4, hasCell (b .plan) x y) ∷ [])
+
+-- what an accepted nearest answers
+abbrev pub NearestAnswer : {X C : Type 0} → (X → X → Bool) → Contents X → (x y : ℕ) → Result (Option Higher) (Denial C) → Type 0
+NearestAnswer le b x y (Ok found) = Nearest le (terrainOf (b .plan) (b .records)) (record { x = x; y = y }) found
+NearestAnswer le b x y (Err denial) = Unit {0}

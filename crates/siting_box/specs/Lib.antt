@@ -1,0 +1,6 @@
+pub mod Denials
+pub mod Contents
+pub mod Searching
+pub mod Stored
+pub mod Fresh
+pub mod Calls

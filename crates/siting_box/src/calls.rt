@@ -1,0 +1,51 @@
+//! The siting box and its calls.
+ghost use mathlib.Core.Path.{_≡_};
+ghost use mathlib.Core.Bool.{true};
+ghost use Prim.Native.Nat.{ℕ};
+ghost use denote.Ref.{now, name};
+ghost use lib.ListN.{length};
+ghost use Rattle.std.specs.declared.option.Option.the-variants.{None};
+ghost use Rattle.heights.specs.Meaning.{storage};
+ghost use Rattle.siting_box.specs.Denials.{deniedBy, firstNo};
+ghost use Rattle.siting_box.specs.Contents.{contents, wellFitted};
+ghost use Rattle.siting_box.specs.Calls.{openQuestions, OpenLeaves, nearestQuestions, NearestAnswer};
+
+use crate::denial::Denial;
+use crate::parts::Parts;
+use grid::CellRecord;
+use grid::Higher;
+use heights::height::HeightKind;
+
+// A siting box over lent cell records. Its plan, if it holds one, has lawful sizes and fits into the records.
+#[derive(Drop)]
+pub struct SitingBox<'a, H> {
+    parts: Parts<'a, H>,
+    ghost fitted: { wellFitted (parts .plan) (length (now (parts .records))) ≡ true },
+}
+
+impl<'a, H: HeightKind> SitingBox<'a, H> {
+    // A box that holds no plan.
+    pub fn new(records: &'a mut [CellRecord<H>]) -> SitingBox<'a, H>
+        ensures empty { λ r. ⌜ contents (r .parts .plan) (now (r .parts .records)) ≡ contents None (now (records .entry)) ⌝ }
+        ensures lent { λ r. ⌜ name (r .parts .records) ≡ name (records .entry) ⌝ }
+    {
+        SitingBox { parts: Parts { records, plan: None } }
+    }
+
+    // Replaces the plan by one of these sizes and stored heights, with no row swept.
+    pub fn open(&mut self, width: usize, rows: usize, radius: usize, bytes: &[u8]) -> Result<(), Denial<H::Cause>>
+        ensures denial { λ r. ⌜ deniedBy r ≡ firstNo (openQuestions (storage H·HeightKind) (contents (now (self .entry) .parts .plan) (now (now (self .entry) .parts .records))) width rows radius (now (bytes .entry))) ⌝ }
+        ensures leaves { λ r. ⌜ OpenLeaves (storage H·HeightKind) width rows radius (now (bytes .entry)) (contents (now (self .entry) .parts .plan) (now (now (self .entry) .parts .records))) (contents (now (self .exit) .parts .plan) (now (now (self .exit) .parts .records))) r ⌝ }
+        ensures lent { λ _. ⌜ name (now (self .exit) .parts .records) ≡ name (now (self .entry) .parts .records) ⌝ }
+    {
+        self.parts.open(width, rows, radius, bytes)
+    }
+
+    // The nearest cell that is strictly higher than the one in column x of row y, and their squared distance.
+    pub fn nearest(&self, x: usize, y: usize) -> Result<Option<Higher>, Denial<H::Cause>>
+        ensures denial { λ r. ⌜ deniedBy r ≡ firstNo (nearestQuestions (contents (now (self .entry) .parts .plan) (now (now (self .entry) .parts .records))) x y) ⌝ }
+        ensures answer { λ r. ⌜ NearestAnswer (H·Height .notHigher) (contents (now (self .entry) .parts .plan) (now (now (self .entry) .parts .records))) x y r ⌝ }
+    {
+        self.parts.nearest(x, y)
+    }
+}

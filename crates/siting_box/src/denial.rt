@@ -1,0 +1,51 @@
+//! Denials of the box.
+ghost use mathlib.Core.Path.{_≡_};
+ghost use Rattle.siting_box.specs.Denials.{number, layer};
+
+// Why a call was denied.
+#[derive(Clone, Copy)]
+pub enum Denial<C> {
+    NoPlan,
+    Sizes,
+    TooFewRecords,
+    Outside,
+    StoredLength,
+    Unread { cause: C, x: usize, y: usize },
+}
+
+// Which layer denied a call.
+#[derive(Clone, Copy)]
+pub enum Layer {
+    Reader,
+    Kind,
+    Counter,
+    Console,
+    Plan,
+}
+
+impl<C: Copy> Denial<C> {
+    // The number of the question that was answered no.
+    pub fn number(self) -> u8
+        ensures { λ r. ⌜ r ≡ number self ⌝ }
+    {
+        match self {
+            Denial::NoPlan => 1,
+            Denial::Sizes => 2,
+            Denial::TooFewRecords => 3,
+            Denial::Outside => 4,
+            Denial::StoredLength => 5,
+            Denial::Unread { .. } => 6,
+        }
+    }
+
+    // The layer that asked it.
+    pub fn layer(self) -> Layer
+        ensures { λ r. ⌜ r ≡ layer self ⌝ }
+    {
+        match self {
+            Denial::StoredLength => Layer::Reader,
+            Denial::Unread { .. } => Layer::Kind,
+            _ => Layer::Plan,
+        }
+    }
+}

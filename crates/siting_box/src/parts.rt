@@ -1,0 +1,85 @@
+//! The parts of a box, and its calls on them.
+ghost use mathlib.Core.Path.{_≡_};
+ghost use mathlib.Core.Bool.{true};
+ghost use Prim.Native.Nat.{ℕ};
+ghost use denote.Ref.{name};
+ghost use lib.ListN.{length};
+ghost use Rattle.heights.specs.Meaning.{storage};
+ghost use Rattle.siting_box.specs.Denials.{deniedBy, firstNo};
+ghost use Rattle.siting_box.specs.Contents.{contents, wellFitted, lawfulSizes};
+ghost use Rattle.siting_box.specs.Calls.{openQuestions, OpenLeaves, nearestQuestions, NearestAnswer};
+
+use crate::denial::Denial;
+use crate::search;
+use crate::stored::fill;
+use crate::stored::first_failure;
+use grid::CellRecord;
+use grid::Higher;
+use grid::Place;
+use grid::Plan;
+use heights::height::HeightKind;
+
+// The longest side of a grid.
+const LONGEST_SIDE: usize = 1024;
+// The largest radius of a window.
+const LARGEST_RADIUS: usize = 255;
+
+// Whether a plan may have these sizes.
+pub(crate) fn are_lawful(width: usize, rows: usize, radius: usize) -> bool
+    ensures { λ r. ⌜ r ≡ lawfulSizes width rows radius ⌝ }
+{
+    1 <= width && width <= LONGEST_SIDE && 1 <= rows && rows <= LONGEST_SIDE && 1 <= radius && radius <= LARGEST_RADIUS
+}
+
+// The records fitted, and the plan if there is one.
+#[derive(Drop)]
+pub(crate) struct Parts<'a, H> {
+    pub(crate) records: &'a mut [CellRecord<H>],
+    pub(crate) plan: Option<Plan>,
+}
+
+impl<'a, H: HeightKind> Parts<'a, H> {
+    // Replaces the plan by one of these sizes and stored heights.
+    pub(crate) fn open(&mut self, width: usize, rows: usize, radius: usize, bytes: &[u8]) -> Result<(), Denial<H::Cause>>
+        requires { ⌜ wellFitted (now self .plan) (length (now (now self .records))) ≡ true ⌝ }
+        ensures fitted { λ _. ⌜ wellFitted (now (self .exit) .plan) (length (now (now (self .exit) .records))) ≡ true ⌝ }
+        ensures denial { λ r. ⌜ deniedBy r ≡ firstNo (openQuestions (storage H·HeightKind) (contents (now (self .entry) .plan) (now (now (self .entry) .records))) width rows radius (now (bytes .entry))) ⌝ }
+        ensures leaves { λ r. ⌜ OpenLeaves (storage H·HeightKind) width rows radius (now (bytes .entry)) (contents (now (self .entry) .plan) (now (now (self .entry) .records))) (contents (now (self .exit) .plan) (now (now (self .exit) .records))) r ⌝ }
+        ensures lent { λ _. ⌜ name (now (self .exit) .records) ≡ name (now (self .entry) .records) ⌝ }
+    {
+        if !are_lawful(width, rows, radius) {
+            return Err(Denial::Sizes);
+        }
+        let cells = width * rows;
+        if cells > self.records.len() {
+            return Err(Denial::TooFewRecords);
+        }
+        if bytes.len() != cells * H::stored_width() {
+            return Err(Denial::StoredLength);
+        }
+        if let Some(failure) = first_failure::<H>(bytes, cells) {
+            let x = failure.index % width;
+            let y = failure.index / width;
+            return Err(Denial::Unread { cause: failure.cause, x, y });
+        }
+        fill::<H>(&mut self.records[0..cells], bytes);
+        self.plan = Some(Plan { width, rows, radius, swept: 0 });
+        Ok(())
+    }
+
+    // The nearest cell that is strictly higher than one.
+    pub(crate) fn nearest(&self, x: usize, y: usize) -> Result<Option<Higher>, Denial<H::Cause>>
+        requires { ⌜ wellFitted (now self .plan) (length (now (now self .records))) ≡ true ⌝ }
+        ensures denial { λ r. ⌜ deniedBy r ≡ firstNo (nearestQuestions (contents (now (self .entry) .plan) (now (now (self .entry) .records))) x y) ⌝ }
+        ensures answer { λ r. ⌜ NearestAnswer (H·Height .notHigher) (contents (now (self .entry) .plan) (now (now (self .entry) .records))) x y r ⌝ }
+    {
+        let Some(plan) = self.plan else {
+            return Err(Denial::NoPlan);
+        };
+        if x >= plan.width || y >= plan.rows {
+            return Err(Denial::Outside);
+        }
+        let cells = plan.width * plan.rows;
+        Ok(search::nearest(&self.records[0..cells], plan.width, plan.rows, Place { x, y }))
+    }
+}
