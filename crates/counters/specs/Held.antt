@@ -4,11 +4,7 @@ use mathlib.Core.List.{List, [], _∷_}
 use mathlib.Core.Bool.{Bool, true, false, cond, not, _&&_}
 use Prim.Native.Nat.{ℕ, _+_}
 use Rattle.heights.specs.Order.{level}
-
--- how many heights of a list pass a test
-abbrev pub tally : {X : Type 0} → (X → Bool) → List X → ℕ
-tally p [] = 0
-tally p (x ∷ xs) = cond (p x) 1 0 + tally p xs
+pub use Rattle.heights.specs.Tally.{tally}
 
 -- a test that does not tell level heights apart
 abbrev pub Blind : {X : Type 0} → (X → X → Bool) → (X → Bool) → Type 0

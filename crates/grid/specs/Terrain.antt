@@ -10,12 +10,17 @@ use Rattle.std.specs.shelf.Maps.{nth}
 use Rattle.std.specs.declared.option.Option.{Option}
 use Rattle.std.specs.declared.option.Option.the-variants.{Some, None}
 use Rattle.grid.specs.declared.Place.{Place}
+use Rattle.grid.specs.declared.CellRecord.{CellRecord}
 
 -- columns, rows, and the heights in reading order
 pub record Terrain (X : Type 0) : Type 0 where
   pub width : ℕ
   pub rows : ℕ
   pub heights : List X
+
+-- the heights of cell records
+abbrev pub heightsOf : {X : Type 0} → List (CellRecord X) → List X
+heightsOf records = map (λ c. c .height) records
 
 -- the place is a cell of the grid
 abbrev pub Inside : {X : Type 0} → Terrain X → Place → Type 0

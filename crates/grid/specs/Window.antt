@@ -1,8 +1,10 @@
 -- The window of a cell and its count.
-use mathlib.Core.Bool.{Bool, false, _&&_}
-use mathlib.Core.List.{List}
+use mathlib.Core.Bool.{Bool, false, cond, _&&_}
+use mathlib.Core.List.{List, []}
 use Prim.Native.Nat.{ℕ, _+_}
 use lib.Dec.{leb}
+use Rattle.std.specs.Joined.{joined}
+use Rattle.std.specs.Vec.{listOf}
 use Rattle.std.specs.declared.option.Option.{Option}
 use Rattle.std.specs.declared.option.Option.the-variants.{Some, None}
 use Rattle.heights.specs.Tally.{tally}
@@ -30,3 +32,7 @@ isNotHigher le (Some a) (Some b) = le a b
 -- the count of a cell: how many cells of its window are not higher than it
 abbrev pub countAt : {X : Type 0} → (X → X → Bool) → Terrain X → ℕ → Place → ℕ
 countAt le t r p = tally (λ q. reaches r p q && isNotHigher le (heightAt t q) (heightAt t p)) (cells (t .width) (t .rows))
+
+-- the heights of the cells of a window, in reading order
+abbrev pub windowHeights : {X : Type 0} → Terrain X → ℕ → Place → List X
+windowHeights t r p = joined (λ q. cond (reaches r p q) (listOf (heightAt t q)) []) (cells (t .width) (t .rows))

@@ -8,8 +8,7 @@ use Rattle.std.specs.declared.option.Option.{Option}
 use Rattle.std.specs.declared.option.Option.the-variants.{Some, None}
 use Rattle.grid.specs.declared.Plan.{Plan}
 use Rattle.grid.specs.declared.CellRecord.{CellRecord}
-use Rattle.grid.specs.Terrain.{Terrain}
-use Rattle.siting_box.specs.Searching.{heightsOf}
+use Rattle.grid.specs.Terrain.{Terrain, heightsOf}
 
 -- the plan, and all records fitted; the plan's cells are the first of them in reading order
 pub record Contents (X : Type 0) : Type 0 where

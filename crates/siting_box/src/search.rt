@@ -3,8 +3,9 @@ ghost use mathlib.Core.Path.{_≡_};
 ghost use mathlib.Core.List.{map};
 ghost use Prim.Native.Nat.{ℕ, _*_, _^_, _≤_, _<_};
 ghost use lib.ListN.{length, getD};
+ghost use Rattle.grid.specs.Terrain.{heightsOf};
 ghost use Rattle.grid.specs.Nearest.{Nearest, squaredDistance};
-ghost use Rattle.siting_box.specs.Searching.{placeOf, nearerOf, heightsOf};
+ghost use Rattle.siting_box.specs.Searching.{placeOf, nearerOf};
 
 use grid::CellRecord;
 use grid::Higher;

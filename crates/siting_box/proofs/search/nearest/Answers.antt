@@ -8,7 +8,8 @@ use Rattle.std.proofs.shelf.Bits.{mul-add-lt, div-below, mod-below}
 use Rattle.grid.specs.declared.Place.{Place}
 use Rattle.grid.specs.declared.Higher.{Higher}
 use Rattle.grid.specs.Nearest.{squaredDistance}
-use Rattle.siting_box.specs.Searching.{placeOf, nearerOf, heightsOf}
+use Rattle.grid.specs.Terrain.{heightsOf}
+use Rattle.siting_box.specs.Searching.{placeOf, nearerOf}
 use Rattle.siting_box.proofs.Searches.{SoFar, passes, weighed, best-is-nearest}
 use Rattle.siting_box.proofs.search.nearest.Needs as need
 use Rattle.siting_box.proofs.search.nearest.Needs.{then-not-is-not-higher, else-not-is-not-higher}

@@ -1,4 +1,4 @@
-use Rattle.siting_box.specs.Searching.{heightsOf}
+use Rattle.grid.specs.Terrain.{heightsOf}
 use Rattle.siting_box.proofs.Searches.{SoFar}
 use Rattle.siting_box.proofs.search.nearest.Given as given
 

@@ -1,0 +1,4 @@
+pub mod Preorders
+pub mod Tallies
+pub mod Classes
+pub mod Rules
