@@ -1,6 +1,10 @@
 //! The siting box: one plan over lent cell records, and the calls on it.
-pub mod calls;
-pub mod denial;
+mod boxes;
+mod denial;
 mod parts;
 mod search;
 mod stored;
+
+pub use boxes::SitingBox;
+pub use denial::Denial;
+pub use denial::Layer;

@@ -5,8 +5,9 @@ ghost use Prim.Native.Nat.{ℕ};
 ghost use denote.Ref.{name};
 ghost use lib.ListN.{length};
 ghost use Rattle.heights.specs.Meaning.{storage};
+ghost use Rattle.siting_box.specs.InParts.{partsContents};
 ghost use Rattle.siting_box.specs.Denials.{deniedBy, firstNo};
-ghost use Rattle.siting_box.specs.Contents.{contents, wellFitted, lawfulSizes};
+ghost use Rattle.siting_box.specs.Contents.{wellFitted, lawfulSizes};
 ghost use Rattle.siting_box.specs.Calls.{openQuestions, OpenLeaves, nearestQuestions, NearestAnswer};
 
 use crate::denial::Denial;
@@ -43,8 +44,8 @@ impl<'a, H: HeightKind> Parts<'a, H> {
     pub(crate) fn open(&mut self, width: usize, rows: usize, radius: usize, bytes: &[u8]) -> Result<(), Denial<H::Cause>>
         requires { ⌜ wellFitted (now self .plan) (length (now (now self .records))) ≡ true ⌝ }
         ensures fitted { λ _. ⌜ wellFitted (now (self .exit) .plan) (length (now (now (self .exit) .records))) ≡ true ⌝ }
-        ensures denial { λ r. ⌜ deniedBy r ≡ firstNo (openQuestions (storage H·HeightKind) (contents (now (self .entry) .plan) (now (now (self .entry) .records))) width rows radius (now (bytes .entry))) ⌝ }
-        ensures leaves { λ r. ⌜ OpenLeaves (storage H·HeightKind) width rows radius (now (bytes .entry)) (contents (now (self .entry) .plan) (now (now (self .entry) .records))) (contents (now (self .exit) .plan) (now (now (self .exit) .records))) r ⌝ }
+        ensures denial { λ r. ⌜ deniedBy r ≡ firstNo (openQuestions (storage H·HeightKind) (partsContents (now (self .entry))) width rows radius (now (bytes .entry))) ⌝ }
+        ensures leaves { λ r. ⌜ OpenLeaves (storage H·HeightKind) width rows radius (now (bytes .entry)) (partsContents (now (self .entry))) (partsContents (now (self .exit))) r ⌝ }
         ensures lent { λ _. ⌜ name (now (self .exit) .records) ≡ name (now (self .entry) .records) ⌝ }
     {
         if !are_lawful(width, rows, radius) {
@@ -70,8 +71,8 @@ impl<'a, H: HeightKind> Parts<'a, H> {
     // The nearest cell that is strictly higher than one.
     pub(crate) fn nearest(&self, x: usize, y: usize) -> Result<Option<Higher>, Denial<H::Cause>>
         requires { ⌜ wellFitted (now self .plan) (length (now (now self .records))) ≡ true ⌝ }
-        ensures denial { λ r. ⌜ deniedBy r ≡ firstNo (nearestQuestions (contents (now (self .entry) .plan) (now (now (self .entry) .records))) x y) ⌝ }
-        ensures answer { λ r. ⌜ NearestAnswer (H·Height .notHigher) (contents (now (self .entry) .plan) (now (now (self .entry) .records))) x y r ⌝ }
+        ensures denial { λ r. ⌜ deniedBy r ≡ firstNo (nearestQuestions (partsContents (now (self .entry))) x y) ⌝ }
+        ensures answer { λ r. ⌜ NearestAnswer (H·Height .notHigher) (partsContents (now (self .entry))) x y r ⌝ }
     {
         let Some(plan) = self.plan else {
             return Err(Denial::NoPlan);

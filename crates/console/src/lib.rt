@@ -1,0 +1,2 @@
+//! The console: lines of bytes in, answers out.
+pub mod line;

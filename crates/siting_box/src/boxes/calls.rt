@@ -1,0 +1,44 @@
+//! The calls of a siting box.
+ghost use mathlib.Core.Path.{_≡_};
+ghost use Prim.Native.Nat.{ℕ};
+ghost use denote.Ref.{name};
+ghost use Rattle.std.specs.declared.option.Option.the-variants.{None};
+ghost use Rattle.heights.specs.Meaning.{storage};
+ghost use Rattle.siting_box.specs.Boxes.{boxContents};
+ghost use Rattle.siting_box.specs.Contents.{contents};
+ghost use Rattle.siting_box.specs.Denials.{deniedBy, firstNo};
+ghost use Rattle.siting_box.specs.Calls.{openQuestions, OpenLeaves, nearestQuestions, NearestAnswer};
+
+use super::SitingBox;
+use crate::denial::Denial;
+use crate::parts::Parts;
+use grid::CellRecord;
+use grid::Higher;
+use heights::height::HeightKind;
+
+impl<'a, H: HeightKind> SitingBox<'a, H> {
+    // A box that holds no plan.
+    pub fn new(records: &'a mut [CellRecord<H>]) -> SitingBox<'a, H>
+        ensures empty { λ r. ⌜ boxContents r ≡ contents None (now (records .entry)) ⌝ }
+        ensures lent { λ r. ⌜ name (r .parts .records) ≡ name (records .entry) ⌝ }
+    {
+        SitingBox { parts: Parts { records, plan: None } }
+    }
+
+    // Replaces the plan by one of these sizes and stored heights, with no row swept.
+    pub fn open(&mut self, width: usize, rows: usize, radius: usize, bytes: &[u8]) -> Result<(), Denial<H::Cause>>
+        ensures denial { λ r. ⌜ deniedBy r ≡ firstNo (openQuestions (storage H·HeightKind) (boxContents (now (self .entry))) width rows radius (now (bytes .entry))) ⌝ }
+        ensures leaves { λ r. ⌜ OpenLeaves (storage H·HeightKind) width rows radius (now (bytes .entry)) (boxContents (now (self .entry))) (boxContents (now (self .exit))) r ⌝ }
+        ensures lent { λ _. ⌜ name (now (self .exit) .parts .records) ≡ name (now (self .entry) .parts .records) ⌝ }
+    {
+        self.parts.open(width, rows, radius, bytes)
+    }
+
+    // The nearest cell that is strictly higher than the one in column x of row y, and their squared distance.
+    pub fn nearest(&self, x: usize, y: usize) -> Result<Option<Higher>, Denial<H::Cause>>
+        ensures denial { λ r. ⌜ deniedBy r ≡ firstNo (nearestQuestions (boxContents (now (self .entry))) x y) ⌝ }
+        ensures answer { λ r. ⌜ NearestAnswer (H·Height .notHigher) (boxContents (now (self .entry))) x y r ⌝ }
+    {
+        self.parts.nearest(x, y)
+    }
+}
