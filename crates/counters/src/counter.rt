@@ -3,7 +3,6 @@ ghost use mathlib.Core.Path.{_≡_};
 ghost use Prim.Native.Nat.{ℕ, _≤_};
 ghost use Rattle.counters.specs.Held.{upTo};
 ghost use Rattle.counters.specs.Calls.{View, Did, Put, Take, ask, begun, refusalNumber};
-
 use heights::height::Height;
 
 // Why a counter refuses a call: it has no place left, or it holds no such height.

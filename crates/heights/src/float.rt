@@ -3,7 +3,6 @@ ghost use mathlib.Core.Path.{_≡_};
 ghost use Prim.Native.Nat.{ℕ};
 ghost use lib.Ieee.{binary32, toBits};
 ghost use Rattle.heights.specs.Float.{floatReads, floatNotHigher, key};
-
 use crate::finite::Finite;
 use crate::finite::FloatCause;
 use crate::height::Height;
@@ -24,7 +23,9 @@ impl FloatBits {
     pub fn of(number: Finite) -> FloatBits
         ensures { λ r. ⌜ r .bits ≡ toBits binary32 (number .value) ⌝ }
     {
-        FloatBits { bits: number.bits() }
+        FloatBits {
+            bits: number.bits(),
+        }
     }
 
     // Where these bits stand in the order: both zeros stand at 0.

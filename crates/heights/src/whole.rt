@@ -1,7 +1,6 @@
 //! Kind W: signed 16-bit whole metres.
 ghost use lib.Signed.{leZ};
 ghost use Rattle.heights.specs.Whole.{wholeReads};
-
 use crate::height::Height;
 use crate::height::HeightKind;
 use crate::height::Unread;

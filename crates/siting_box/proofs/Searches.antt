@@ -54,52 +54,52 @@ module _ {X : Type 0} (le : X → X → Bool) (hs : List X) (own : X) (width : �
   -- a cell that is not higher changes nothing
   pub passes : (n : ℕ) (b : Option Higher) → SoFar le hs own width p n b → le (getD hs n own) own ≡ true → SoFar le hs own width p (n + 1) b
   passes n None h low = below-more (λ j. le (getD hs j own) own ≡ true) n h low
-  passes n (Some f) h low = record
-    { column = h .column
-    ; below = omega (arith, h .below)
-    ; higher = h .higher
-    ; distance-is = h .distance-is
-    ; others = below-more (λ j. le (getD hs j own) own ≡ false → (f .distance < squaredDistance p (placeOf width j)) ⊎ ((f .distance ≡ squaredDistance p (placeOf width j)) × (readingIndex width (f .place) ≤ j))) n (h .others) (λ up. both-ways _ low up)
-    }
+  passes n (Some f) h low = record {
+    column = h .column;
+    below = omega (arith, h .below);
+    higher = h .higher;
+    distance-is = h .distance-is;
+    others = below-more (λ j. le (getD hs j own) own ≡ false → (f .distance < squaredDistance p (placeOf width j)) ⊎ ((f .distance ≡ squaredDistance p (placeOf width j)) × (readingIndex width (f .place) ≤ j))) n (h .others) (λ up. both-ways _ low up);
+  }
 
   -- the first higher cell
   starts : (n : ℕ) → 0 < width → SoFar le hs own width p n None → le (getD hs n own) own ≡ false → BestOf le hs own width p (n + 1) (record { place = placeOf width n; distance = squaredDistance p (placeOf width n) })
   starts n w h up =
       let at = index-of-place width n w in
-      record
-        { column = mod-below n width w
-        ; below = omega (arith, at)
-        ; higher = subst (λ i. le (getD hs i own) own ≡ false) (sym at) up
-        ; distance-is = refl
-        ; others = below-more (λ j. le (getD hs j own) own ≡ false → (squaredDistance p (placeOf width n) < squaredDistance p (placeOf width j)) ⊎ ((squaredDistance p (placeOf width n) ≡ squaredDistance p (placeOf width j)) × (readingIndex width (placeOf width n) ≤ j))) n
+      record {
+        column = mod-below n width w;
+        below = omega (arith, at);
+        higher = subst (λ i. le (getD hs i own) own ≡ false) (sym at) up;
+        distance-is = refl;
+        others = below-more (λ j. le (getD hs j own) own ≡ false → (squaredDistance p (placeOf width n) < squaredDistance p (placeOf width j)) ⊎ ((squaredDistance p (placeOf width n) ≡ squaredDistance p (placeOf width j)) × (readingIndex width (placeOf width n) ≤ j))) n
             (λ j l high. both-ways _ (h j l) high)
-            (λ _. inr (refl, omega (arith, at)))
-        }
+            (λ _. inr (refl, omega (arith, at)));
+      }
 
   -- a nearer one takes the place of the best
   replaces : (n : ℕ) (f : Higher) → 0 < width → BestOf le hs own width p n f → squaredDistance p (placeOf width n) < f .distance → le (getD hs n own) own ≡ false → BestOf le hs own width p (n + 1) (record { place = placeOf width n; distance = squaredDistance p (placeOf width n) })
   replaces n f w h near up =
       let at = index-of-place width n w in
-      record
-        { column = mod-below n width w
-        ; below = omega (arith, at)
-        ; higher = subst (λ i. le (getD hs i own) own ≡ false) (sym at) up
-        ; distance-is = refl
-        ; others = below-more (λ j. le (getD hs j own) own ≡ false → (squaredDistance p (placeOf width n) < squaredDistance p (placeOf width j)) ⊎ ((squaredDistance p (placeOf width n) ≡ squaredDistance p (placeOf width j)) × (readingIndex width (placeOf width n) ≤ j))) n
+      record {
+        column = mod-below n width w;
+        below = omega (arith, at);
+        higher = subst (λ i. le (getD hs i own) own ≡ false) (sym at) up;
+        distance-is = refl;
+        others = below-more (λ j. le (getD hs j own) own ≡ false → (squaredDistance p (placeOf width n) < squaredDistance p (placeOf width j)) ⊎ ((squaredDistance p (placeOf width n) ≡ squaredDistance p (placeOf width j)) × (readingIndex width (placeOf width n) ≤ j))) n
             (λ j l high. inl (⊎-elim (λ less. omega arith) (λ same. omega (arith, same .0)) (h .others j l high)))
-            (λ _. inr (refl, omega (arith, at)))
-        }
+            (λ _. inr (refl, omega (arith, at)));
+      }
 
   -- one that is not nearer does not
   remains : (n : ℕ) (f : Higher) → BestOf le hs own width p n f → f .distance ≤ squaredDistance p (placeOf width n) → BestOf le hs own width p (n + 1) f
-  remains n f h far = record
-    { column = h .column
-    ; below = omega (arith, h .below)
-    ; higher = h .higher
-    ; distance-is = h .distance-is
-    ; others = below-more (λ j. le (getD hs j own) own ≡ false → (f .distance < squaredDistance p (placeOf width j)) ⊎ ((f .distance ≡ squaredDistance p (placeOf width j)) × (readingIndex width (f .place) ≤ j))) n (h .others)
-        (λ _. ⊎-elim (λ same. inr (same, omega (arith, h .below))) (λ less. inl less) (eq-or-lt-of-le far))
-    }
+  remains n f h far = record {
+    column = h .column;
+    below = omega (arith, h .below);
+    higher = h .higher;
+    distance-is = h .distance-is;
+    others = below-more (λ j. le (getD hs j own) own ≡ false → (f .distance < squaredDistance p (placeOf width j)) ⊎ ((f .distance ≡ squaredDistance p (placeOf width j)) × (readingIndex width (f .place) ≤ j))) n (h .others)
+        (λ _. ⊎-elim (λ same. inr (same, omega (arith, h .below))) (λ less. inl less) (eq-or-lt-of-le far));
+  }
 
   decides : (n : ℕ) (f : Higher) (t : Bool) → 0 < width → leb (f .distance) (squaredDistance p (placeOf width n)) ≡ t → BestOf le hs own width p n f → le (getD hs n own) own ≡ false → SoFar le hs own width p (n + 1) (cond t (Some f) (Some (record { place = placeOf width n; distance = squaredDistance p (placeOf width n) })))
   decides n f true w e h up = remains n f h (grind (arith, tells))
@@ -153,10 +153,10 @@ module _ {X : Type 0} (le : X → X → Bool) (t : Terrain X) (p : Place) (own :
       let below : readingIndex (t .width) (f .place) < t .rows * t .width = omega (arith, h .below, mul-comm (t .width) (t .rows)) in
       let row : f .place .y < t .rows = subst (λ y. y < t .rows) (div-mul-add (f .place .y) (t .width) (f .place .x) (h .column)) (div-below (readingIndex (t .width) (f .place)) (t .width) (t .rows) wide below) in
       let i : Inside t (f .place) = (h .column, row) in
-      record
-        { inside = i
-        ; higher = higher-is (f .place) i ∙ ap not (h .higher)
-        ; distance-is = h .distance-is
-        ; nearest = λ q j up. ⊎-elim (λ less. omega arith) (λ same. omega (arith, same .0)) (against f h q j up)
-        ; first = λ q j up e. ⊎-elim (λ less. absurd (omega arith)) (λ same. same .1) (against f h q j up)
-        }
+      record {
+        inside = i;
+        higher = higher-is (f .place) i ∙ ap not (h .higher);
+        distance-is = h .distance-is;
+        nearest = λ q j up. ⊎-elim (λ less. omega arith) (λ same. omega (arith, same .0)) (against f h q j up);
+        first = λ q j up e. ⊎-elim (λ less. absurd (omega arith)) (λ same. same .1) (against f h q j up);
+      }

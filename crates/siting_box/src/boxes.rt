@@ -4,7 +4,6 @@ ghost use mathlib.Core.Bool.{true};
 ghost use denote.Ref.{now};
 ghost use lib.ListN.{length};
 ghost use Rattle.siting_box.specs.Contents.{wellFitted};
-
 use crate::parts::Parts;
 
 mod calls;

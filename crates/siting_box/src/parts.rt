@@ -9,7 +9,6 @@ ghost use Rattle.siting_box.specs.InParts.{partsContents};
 ghost use Rattle.siting_box.specs.Denials.{deniedBy, firstNo};
 ghost use Rattle.siting_box.specs.Contents.{wellFitted, lawfulSizes};
 ghost use Rattle.siting_box.specs.Calls.{openQuestions, OpenLeaves, nearestQuestions, NearestAnswer};
-
 use crate::denial::Denial;
 use crate::search;
 use crate::stored::fill;
@@ -29,7 +28,12 @@ const LARGEST_RADIUS: usize = 255;
 pub(crate) fn are_lawful(width: usize, rows: usize, radius: usize) -> bool
     ensures { λ r. ⌜ r ≡ lawfulSizes width rows radius ⌝ }
 {
-    1 <= width && width <= LONGEST_SIDE && 1 <= rows && rows <= LONGEST_SIDE && 1 <= radius && radius <= LARGEST_RADIUS
+    1 <= width
+        && width <= LONGEST_SIDE
+        && 1 <= rows
+        && rows <= LONGEST_SIDE
+        && 1 <= radius
+        && radius <= LARGEST_RADIUS
 }
 
 // The records fitted, and the plan if there is one.
@@ -41,7 +45,13 @@ pub(crate) struct Parts<'a, H> {
 
 impl<'a, H: HeightKind> Parts<'a, H> {
     // Replaces the plan by one of these sizes and stored heights.
-    pub(crate) fn open(&mut self, width: usize, rows: usize, radius: usize, bytes: &[u8]) -> Result<(), Denial<H::Cause>>
+    pub(crate) fn open(
+        &mut self,
+        width: usize,
+        rows: usize,
+        radius: usize,
+        bytes: &[u8],
+    ) -> Result<(), Denial<H::Cause>>
         requires { ⌜ wellFitted (now self .plan) (length (now (now self .records))) ≡ true ⌝ }
         ensures fitted { λ _. ⌜ wellFitted (now (self .exit) .plan) (length (now (now (self .exit) .records))) ≡ true ⌝ }
         ensures denial { λ r. ⌜ deniedBy r ≡ firstNo (openQuestions (storage H·HeightKind) (partsContents (now (self .entry))) width rows radius (now (bytes .entry))) ⌝ }
@@ -61,10 +71,19 @@ impl<'a, H: HeightKind> Parts<'a, H> {
         if let Some(failure) = first_failure::<H>(bytes, cells) {
             let x = failure.index % width;
             let y = failure.index / width;
-            return Err(Denial::Unread { cause: failure.cause, x, y });
+            return Err(Denial::Unread {
+                cause: failure.cause,
+                x,
+                y,
+            });
         }
         fill::<H>(&mut self.records[0..cells], bytes);
-        self.plan = Some(Plan { width, rows, radius, swept: 0 });
+        self.plan = Some(Plan {
+            width,
+            rows,
+            radius,
+            swept: 0,
+        });
         Ok(())
     }
 
@@ -81,6 +100,11 @@ impl<'a, H: HeightKind> Parts<'a, H> {
             return Err(Denial::Outside);
         }
         let cells = plan.width * plan.rows;
-        Ok(search::nearest(&self.records[0..cells], plan.width, plan.rows, Place { x, y }))
+        Ok(search::nearest(
+            &self.records[0..cells],
+            plan.width,
+            plan.rows,
+            Place { x, y },
+        ))
     }
 }

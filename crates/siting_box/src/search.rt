@@ -6,7 +6,6 @@ ghost use lib.ListN.{length, getD};
 ghost use Rattle.grid.specs.Terrain.{heightsOf};
 ghost use Rattle.grid.specs.Nearest.{Nearest, squaredDistance};
 ghost use Rattle.siting_box.specs.Searching.{placeOf, nearerOf};
-
 use grid::CellRecord;
 use grid::Higher;
 use grid::Place;
@@ -25,7 +24,10 @@ fn place_of(width: usize, index: usize) -> Place
     requires { ⌜ 0 < width ⌝ }
     ensures { λ r. ⌜ r ≡ placeOf width index ⌝ }
 {
-    Place { x: index % width, y: index / width }
+    Place {
+        x: index % width,
+        y: index / width,
+    }
 }
 
 // The squared distance of two places.
@@ -50,7 +52,12 @@ fn nearer(best: Option<Higher>, later: Higher) -> Option<Higher>
 }
 
 // The nearest cell of a grid that is strictly higher than the one at a place.
-pub(crate) fn nearest<H: Height>(records: &[CellRecord<H>], width: usize, rows: usize, from: Place) -> Option<Higher>
+pub(crate) fn nearest<H: Height>(
+    records: &[CellRecord<H>],
+    width: usize,
+    rows: usize,
+    from: Place,
+) -> Option<Higher>
     requires whole { ⌜ length (now records) ≡ width * rows ⌝ }
     requires sizes { ⌜ (width ≤ 1024) × (rows ≤ 1024) ⌝ }
     requires inside { ⌜ (from .x < width) × (from .y < rows) ⌝ }

@@ -10,7 +10,6 @@ ghost use Rattle.std.specs.declared.result.Result.the-variants.{Ok, Err};
 ghost use Rattle.heights.specs.Meaning.{storage};
 ghost use Rattle.siting_box.specs.Stored.{storedAt, readFirst};
 ghost use Rattle.siting_box.specs.Fresh.{fresh, heightsRead};
-
 use grid::CellRecord;
 use heights::height::HeightKind;
 use heights::height::Unread;

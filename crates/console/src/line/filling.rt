@@ -6,7 +6,6 @@ ghost use denote.Ref.{now as behind};
 ghost use Rattle.std.specs.Options.{mapped};
 ghost use Rattle.std.specs.declared.option.Option.the-variants.{Some};
 ghost use Rattle.console.specs.Lines.{come, withByte};
-
 use super::Line;
 
 // A line has at most so many bytes.
@@ -17,7 +16,11 @@ impl Line {
     pub fn new() -> Line
         ensures { λ line. ⌜ come line ≡ Some [] ⌝ }
     {
-        Line { bytes: [0; 9000], len: 0, is_over: false }
+        Line {
+            bytes: [0; 9000],
+            len: 0,
+            is_over: false,
+        }
     }
 
     // One byte more of the line.

@@ -8,7 +8,6 @@ ghost use Rattle.siting_box.specs.Boxes.{boxContents};
 ghost use Rattle.siting_box.specs.Contents.{contents};
 ghost use Rattle.siting_box.specs.Denials.{deniedBy, firstNo};
 ghost use Rattle.siting_box.specs.Calls.{openQuestions, OpenLeaves, nearestQuestions, NearestAnswer};
-
 use super::SitingBox;
 use crate::denial::Denial;
 use crate::parts::Parts;
@@ -22,11 +21,22 @@ impl<'a, H: HeightKind> SitingBox<'a, H> {
         ensures empty { λ r. ⌜ boxContents r ≡ contents None (now (records .entry)) ⌝ }
         ensures lent { λ r. ⌜ name (r .parts .records) ≡ name (records .entry) ⌝ }
     {
-        SitingBox { parts: Parts { records, plan: None } }
+        SitingBox {
+            parts: Parts {
+                records,
+                plan: None,
+            },
+        }
     }
 
     // Replaces the plan by one of these sizes and stored heights, with no row swept.
-    pub fn open(&mut self, width: usize, rows: usize, radius: usize, bytes: &[u8]) -> Result<(), Denial<H::Cause>>
+    pub fn open(
+        &mut self,
+        width: usize,
+        rows: usize,
+        radius: usize,
+        bytes: &[u8],
+    ) -> Result<(), Denial<H::Cause>>
         ensures denial { λ r. ⌜ deniedBy r ≡ firstNo (openQuestions (storage H·HeightKind) (boxContents (now (self .entry))) width rows radius (now (bytes .entry))) ⌝ }
         ensures leaves { λ r. ⌜ OpenLeaves (storage H·HeightKind) width rows radius (now (bytes .entry)) (boxContents (now (self .entry))) (boxContents (now (self .exit))) r ⌝ }
         ensures lent { λ _. ⌜ name (now (self .exit) .parts .records) ≡ name (now (self .entry) .parts .records) ⌝ }

@@ -25,13 +25,13 @@ squared-distance-distance-requires g c κs =
     let x = mod-below (c .loop-index .index) (c .args .width) wide in
     let y = div-below (c .loop-index .index) (c .args .width) (c .args .rows) wide inside in
     let place = c .place-of-place .ensures in
-    record
-      { from-small = (omega (arith, c .pre .inside .0, c .pre .sizes .0), omega (arith, c .pre .inside .1, c .pre .sizes .1))
-      ; to-small =
-          ( omega (arith, ap (λ (p : Place). p .x) place, x, c .pre .sizes .0)
-          , omega (arith, ap (λ (p : Place). p .y) place, y, c .pre .sizes .1)
-          )
-      }
+    record {
+      from-small = (omega (arith, c .pre .inside .0, c .pre .sizes .0), omega (arith, c .pre .inside .1, c .pre .sizes .1));
+      to-small = (
+        omega (arith, ap (λ (p : Place). p .x) place, x, c .pre .sizes .0),
+        omega (arith, ap (λ (p : Place). p .y) place, y, c .pre .sizes .1),
+      );
+    }
 
 pub loop-index-again : need.loop-index-again
 loop-index-again g c =
@@ -42,7 +42,7 @@ loop-index-again g c =
     elim (c .if-not-is-not-higher .came) [
       | then-not-is-not-higher w ↦
           subst (SoFar le hs own (c .args .width) (c .args .from) (c .loop-index .index + 1)) (sym (w .best-is ∙ w .nearer-best .ensures))
-            (weighed le hs own (c .args .width) (c .args .from) (c .loop-index .index) (c .loop-index .best) (w .place-of-place .result) (w .squared-distance-distance .result) (omega (arith, c .pre .inside .0)) (c .loop-index .inv) (sym test ∙ w .if-not-is-not-higher .taken) (w .place-of-place .ensures) (w .squared-distance-distance .ensures))
+          (weighed le hs own (c .args .width) (c .args .from) (c .loop-index .index) (c .loop-index .best) (w .place-of-place .result) (w .squared-distance-distance .result) (omega (arith, c .pre .inside .0)) (c .loop-index .inv) (sym test ∙ w .if-not-is-not-higher .taken) (w .place-of-place .ensures) (w .squared-distance-distance .ensures))
       | else-not-is-not-higher w ↦ subst (SoFar le hs own (c .args .width) (c .args .from) (c .loop-index .index + 1)) (sym (w .best-is)) (passes le hs own (c .args .width) (c .args .from) (c .loop-index .index) (c .loop-index .best) (c .loop-index .inv) (sym test ∙ w .if-not-is-not-higher .left))
     ]
 
@@ -54,4 +54,4 @@ returns g c =
     let long : length hs ≡ c .args .width * c .args .rows = length-map _ _ ∙ c .pre .whole in
     let all : c .loop-index .index ≡ c .args .width * c .args .rows = omega (arith, c .pre .whole) in
     best-is-nearest le (record { width = c .args .width; rows = c .args .rows; heights = hs }) (c .args .from) own long (omega (arith, c .pre .inside .0)) (c .pre .inside) (c .height-at-own .ensures own) (c .loop-index .best)
-      (subst (λ n. SoFar le hs own (c .args .width) (c .args .from) n (c .loop-index .best)) all (c .loop-index .inv))
+    (subst (λ n. SoFar le hs own (c .args .width) (c .args .from) n (c .loop-index .best)) all (c .loop-index .inv))

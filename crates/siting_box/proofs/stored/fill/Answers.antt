@@ -22,10 +22,10 @@ loop-index-again g c =
     let lt : i < length (c .loop-index .records) = omega arith in
     elim (c .match-read-at .came) [
       | in-Ok w ↦
-          let j = joins k bytes i (w .in-Ok .height) (inv .0) (sym (w .in-Ok .ensures tt)) in
-          ( j .0
-          , c .match-read-at .kept .records ∙ inv .1
-          , ap (take (i + 1)) (w .records-is) ∙ take-more-set (c .loop-index .records) i (fresh (w .in-Ok .height)) lt ∙ ap (λ t. t ++ (fresh (w .in-Ok .height) ∷ [])) (inv .2) ∙ sym (map-push fresh (heightsRead k bytes i) (w .in-Ok .height)) ∙ ap (map fresh) (sym (j .1))
+          let j = joins k bytes i (w .in-Ok .height) (inv .0) (sym (w .in-Ok .ensures tt)) in (
+            j .0,
+            c .match-read-at .kept .records ∙ inv .1,
+            ap (take (i + 1)) (w .records-is) ∙ take-more-set (c .loop-index .records) i (fresh (w .in-Ok .height)) lt ∙ ap (λ t. t ++ (fresh (w .in-Ok .height) ∷ [])) (inv .2) ∙ sym (map-push fresh (heightsRead k bytes i) (w .in-Ok .height)) ∙ ap (map fresh) (sym (j .1)),
           )
       | in-rest w ↦ absurd (none-fails k bytes i (length (c .args .records .now)) (w .in-rest .field-0) (omega arith) (c .pre .all-read) (inv .0) (sym (w .in-rest .ensures tt)))
     ]

@@ -1,0 +1,93 @@
+-- What the console answers to a line, and what the line does to the box.
+use mathlib.Core.Path.{_≡_}
+use mathlib.Core.Bool.{Bool}
+use mathlib.Core.Logic.{_⊎_}
+use mathlib.Core.List.{List}
+use Prim.Native.Nat.{ℕ, _≤_}
+use lib.ListN.{length}
+use Rattle.std.specs.declared.option.Option.{Option}
+use Rattle.std.specs.declared.option.Option.the-variants.{Some, None}
+use Rattle.std.specs.declared.result.Result.{Result}
+use Rattle.std.specs.declared.result.Result.the-variants.{Ok, Err}
+use Rattle.heights.specs.Meaning.{Storage}
+use Rattle.grid.specs.declared.Higher.{Higher}
+use Rattle.siting_box.specs.declared.denial.Denial.{Denial}
+use Rattle.siting_box.specs.declared.denial.Denial.the-variants.{NoPlan, Sizes, TooFewRecords, Outside, StoredLength, Unread}
+use Rattle.siting_box.specs.Contents.{Contents}
+use Rattle.siting_box.specs.Denials.{number, deniedBy, firstNo}
+use Rattle.siting_box.specs.Calls.{openQuestions, OpenLeaves, nearestQuestions, NearestAnswer}
+use Rattle.console_text.specs.declared.answers.Answer.{Answer}
+use Rattle.console_text.specs.declared.answers.Answer.the-variants.{Done, Nearest, Denied, DeniedAt}
+use Rattle.console_text.specs.declared.commands.KindLetter.{KindLetter}
+use Rattle.console_text.specs.declared.commands.CounterLetter.{CounterLetter}
+use Rattle.console_text.specs.declared.commands.Command.{Command}
+use Rattle.console_text.specs.declared.commands.Command.the-variants as command
+use Rattle.console_text.specs.Hexadecimal.{HexPairs, bytesOf}
+use Rattle.console_text.specs.Commands.{Spells}
+
+-- a denial is told by its number; by question 6 with the cell
+abbrev pub denialAnswer : {C : Type 0} → Denial C → Answer
+denialAnswer NoPlan = Denied 1
+denialAnswer Sizes = Denied 2
+denialAnswer TooFewRecords = Denied 3
+denialAnswer Outside = Denied 4
+denialAnswer StoredLength = Denied 5
+denialAnswer (Unread cause x y) = DeniedAt 6 x y
+
+-- the answer to open
+abbrev pub openAnswer : {C : Type 0} → Result Unit (Denial C) → Answer
+openAnswer (Ok done) = Done
+openAnswer (Err denial) = denialAnswer denial
+
+-- the answer to nearest
+abbrev pub nearestAnswer : {C : Type 0} → Result (Option Higher) (Denial C) → Answer
+nearestAnswer (Ok found) = Nearest found
+nearestAnswer (Err denial) = denialAnswer denial
+
+-- the box was opened, or denied it, and that is what was answered
+pub record OpenCarried {X C : Type 0} (k : Storage X C) (width rows radius : ℕ) (digits : List ℕ) (before after : Contents X) (answer : Answer) : Type 0 where
+  pub result : Result Unit (Denial C)
+  pub denial : deniedBy result ≡ firstNo (openQuestions k before width rows radius (bytesOf digits))
+  pub leaves : OpenLeaves k width rows radius (bytesOf digits) before after result
+  pub answer-is : answer ≡ openAnswer result
+
+-- the box found what is nearest, or denied it, and that is what was answered
+pub record NearestCarried {X C : Type 0} (k : Storage X C) (le : X → X → Bool) (x y : ℕ) (b : Contents X) (answer : Answer) : Type 0 where
+  pub result : Result (Option Higher) (Denial C)
+  pub denial : deniedBy result ≡ firstNo (nearestQuestions b x y)
+  pub found : NearestAnswer le b x y result
+  pub answer-is : answer ≡ nearestAnswer result
+
+-- the line is denied, and the box stands as it did; 13 is "is the line one of the console's forms"
+abbrev pub NoForm : {X : Type 0} → (before after : Contents X) → Answer → Type 0
+NoForm before after answer = (after ≡ before) × (answer ≡ Denied 13)
+
+-- what a command does and what is answered; a later choice of kind and counter is no form
+abbrev pub Carried : {X C : Type 0} → Storage X C → (X → X → Bool) → Command → (before after : Contents X) → Answer → Type 0
+Carried k le (command.Choose kind counter) before after answer = NoForm before after answer
+Carried k le (command.Open width rows radius digits) before after answer = OpenCarried k width rows radius (digits .now) before after answer
+Carried k le command.Sweep before after answer = NoForm before after answer
+Carried k le (command.Tell x y) before after answer = NoForm before after answer
+Carried k le (command.Nearest x y) before after answer = (after ≡ before) × NearestCarried k le x y before answer
+
+-- a line is served: the command that it writes is carried out; a line that writes none, or is too long, is denied
+abbrev pub Served : {X C : Type 0} → Storage X C → (X → X → Bool) → Option (List ℕ) → (before after : Contents X) → Answer → Type 0
+Served k le None before after answer = NoForm before after answer
+Served k le (Some line) before after answer =
+    ((command : Command) × Spells command line × Carried k le command before after answer)
+    ⊎ (((command : Command) → Spells command line → ⊥) × NoForm before after answer)
+
+-- the digits of a command are pairs of hexadecimal digits, no more than a line can hold
+abbrev pub Decodable : Command → Type 0
+Decodable (command.Choose kind counter) = Unit {0}
+Decodable (command.Open width rows radius digits) = HexPairs (digits .now) × (length (digits .now) ≤ 9000)
+Decodable command.Sweep = Unit {0}
+Decodable (command.Tell x y) = Unit {0}
+Decodable (command.Nearest x y) = Unit {0}
+
+-- the first accepted line chooses a kind and a counter; every other line before it is denied
+abbrev pub ChosenBy : Option (List ℕ) → Option (KindLetter × CounterLetter) → Type 0
+ChosenBy None (Some choice) = ⊥
+ChosenBy None None = Unit {0}
+ChosenBy (Some line) (Some choice) = Spells (command.Choose (choice .0) (choice .1)) line
+ChosenBy (Some line) None = (kind : KindLetter) (counter : CounterLetter) → Spells (command.Choose kind counter) line → ⊥

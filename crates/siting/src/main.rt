@@ -1,0 +1,100 @@
+//! The siting console: reads lines of standard input and answers each as it comes.
+mod reader;
+
+use console::line::Line;
+use console::session::choose;
+use console::session::serve;
+use console_text::Answer;
+use console_text::CounterLetter;
+use console_text::KindLetter;
+use console_text::render;
+use grid::CellRecord;
+use heights::float::FloatBits;
+use heights::float::FloatHeight;
+use heights::float::FloatMetres;
+use heights::height::HeightKind;
+use heights::whole::WholeHeight;
+use heights::whole::WholeMetres;
+use reader::Reader;
+use siting_box::SitingBox;
+use std::io;
+use std::io::Write;
+
+// Writes an answer.
+fn tell(rt: &LibcRuntime, answer: Answer) -> io::Result<()> {
+    let line = render(answer);
+    let mut output = rt.stdout();
+    output.write_all(line.as_bytes())
+}
+
+// Answers lines until one chooses a kind and a counter.
+fn wait_for_choice(
+    rt: &LibcRuntime,
+    reader: &mut Reader,
+    line: &mut Line,
+) -> io::Result<Option<(KindLetter, CounterLetter)>> {
+    for _ in 0..u64::MAX {
+        if !reader.read_line(line)? {
+            break;
+        }
+        if let Some(choice) = choose(line) {
+            tell(rt, Answer::Done)?;
+            return Ok(Some(choice));
+        }
+        tell(rt, Answer::Denied { number: 13 })?;
+    }
+    Ok(None)
+}
+
+// Answers lines from a box over these records.
+fn serve_lines<H: HeightKind>(
+    rt: &LibcRuntime,
+    reader: &mut Reader,
+    line: &mut Line,
+    records: &mut [CellRecord<H>],
+) -> io::Result<()> {
+    let mut siting = SitingBox::new(records);
+    for _ in 0..u64::MAX {
+        if !reader.read_line(line)? {
+            break;
+        }
+        tell(rt, serve(&mut siting, line))?;
+    }
+    Ok(())
+}
+
+// Serves heights in whole metres.
+fn serve_whole(rt: &LibcRuntime, reader: &mut Reader, line: &mut Line) -> io::Result<()> {
+    let mut records = [CellRecord {
+        height: 0i16,
+        count: 0,
+    }; 1024];
+    serve_lines(rt, reader, line, &mut records)
+}
+
+// Serves heights in floating-point metres.
+fn serve_float(rt: &LibcRuntime, reader: &mut Reader, line: &mut Line) -> io::Result<()> {
+    let mut records = [CellRecord {
+        height: FloatBits { bits: 0 },
+        count: 0,
+    }; 1024];
+    serve_lines(rt, reader, line, &mut records)
+}
+
+fn main(rt: LibcRuntime) -> io::Result<()> {
+    let mut reader = Reader::new(rt.stdin());
+    let mut line = Line::new();
+    match wait_for_choice(&rt, &mut reader, &mut line)? {
+        Some((KindLetter::Whole, CounterLetter::ShiftArray)) => serve_whole(
+            &rt,
+            &mut reader,
+            &mut line,
+        ),
+        Some((KindLetter::Float, CounterLetter::ShiftArray)) => serve_float(
+            &rt,
+            &mut reader,
+            &mut line,
+        ),
+        None => Ok(()),
+    }
+}
