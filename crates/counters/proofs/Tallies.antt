@@ -6,28 +6,9 @@ use Prim.Native.Nat.{ℕ, _+_, _≤_, _<_}
 use native.Mathlib.Omega.{arith}
 use lib.ListN.{length}
 use Rattle.heights.specs.Order.{Preorder, level}
+pub use Rattle.heights.proofs.Tallying.{tally-append, tally-always, tally-le-length}
 use Rattle.counters.specs.Held.{tally, Same, upTo, levelWith}
 use Rattle.counters.proofs.Preorders.{blind-always, blind-up-to, blind-level, level-parts, level-self}
-
--- the tally of two lists in a row is the sum of theirs
-pub tally-append : {X : Type 0} (p : X → Bool) (xs ys : List X) → tally p (xs ++ ys) ≡ tally p xs + tally p ys
-tally-append p [] ys = omega arith
-tally-append p (x ∷ xs) ys = omega (arith, tally-append p xs ys)
-
--- a test that always passes counts the whole list
-pub tally-always : {X : Type 0} (xs : List X) → tally (λ _. true) xs ≡ length xs
-tally-always [] = refl
-tally-always (x ∷ xs) = omega (arith, tally-always xs)
-
--- a test counts at most 1 at each height
-one-at-most : (b : Bool) → cond b 1 0 ≤ 1
-one-at-most true = omega arith
-one-at-most false = omega arith
-
--- a tally is at most the length
-pub tally-le-length : {X : Type 0} (p : X → Bool) (xs : List X) → tally p xs ≤ length xs
-tally-le-length p [] = omega arith
-tally-le-length p (x ∷ xs) = omega (arith, one-at-most (p x), tally-le-length p xs)
 
 -- a list holds the same heights as itself
 pub same-refl : {X : Type 0} (le : X → X → Bool) (xs : List X) → Same le xs xs
