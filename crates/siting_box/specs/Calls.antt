@@ -13,12 +13,15 @@ use Rattle.std.specs.declared.result.Result.{Result}
 use Rattle.std.specs.declared.result.Result.the-variants.{Ok, Err}
 use Rattle.heights.specs.Meaning.{Storage}
 use Rattle.grid.specs.declared.Higher.{Higher}
+use Rattle.grid.specs.declared.Place.{Place}
 use Rattle.grid.specs.declared.Plan.{Plan}
 use Rattle.grid.specs.declared.CellRecord.{CellRecord}
 use Rattle.grid.specs.Nearest.{Nearest}
+use Rattle.grid.specs.Window.{countAt, windowSize}
 use Rattle.siting_box.specs.declared.denial.Denial.{Denial}
-use Rattle.siting_box.specs.declared.denial.Denial.the-variants.{NoPlan, Sizes, TooFewRecords, Outside, StoredLength, Unread}
-use Rattle.siting_box.specs.Contents.{Contents, lawfulSizes, terrainOf}
+use Rattle.siting_box.specs.declared.denial.Denial.the-variants.{NoPlan, Sizes, TooFewRecords, Outside, StoredLength, Unread, NoRowLeft, TooFewPlaces, NotSwept}
+use Rattle.siting_box.specs.declared.told.Told.{Told}
+use Rattle.siting_box.specs.Contents.{Contents, lawfulSizes, terrainOf, radiusOf, isSwept, countOn, Counted}
 use Rattle.siting_box.specs.Stored.{readFirst}
 use Rattle.siting_box.specs.Fresh.{fresh}
 
@@ -54,11 +57,29 @@ Blames k width rows bytes TooFewRecords = Unit {0}
 Blames k width rows bytes Outside = Unit {0}
 Blames k width rows bytes StoredLength = Unit {0}
 Blames k width rows bytes (Unread cause x y) = (x < width) × (readFirst k bytes (width * rows) ≡ Err (y * width + x, cause))
+Blames k width rows bytes NoRowLeft = Unit {0}
+Blames k width rows bytes TooFewPlaces = Unit {0}
+Blames k width rows bytes NotSwept = Unit {0}
 
 -- what open leaves: a denied open changes nothing
 abbrev pub OpenLeaves : {X C : Type 0} → Storage X C → (width rows radius : ℕ) → List ℕ → (before after : Contents X) → Result Unit (Denial C) → Type 0
 OpenLeaves k width rows radius bytes before after (Ok answer) = Opened k width rows radius bytes before after
 OpenLeaves k width rows radius bytes before after (Err denial) = (after ≡ before) × Blames k width rows bytes denial
+
+-- what tell asks: 1 the plan, 4 the cell, 9 that its row is swept
+abbrev pub tellQuestions : {X : Type 0} → Contents X → (x y : ℕ) → List (ℕ × Bool)
+tellQuestions b x y = (1, holdsPlan b) ∷ ((4, hasCell (b .plan) x y) ∷ ((9, isSwept (b .plan) y) ∷ []))
+
+-- what tell answers: the count on record, which is the defined one in a box whose counts are, and the cells of the window
+pub record TellsCount {X : Type 0} (le : X → X → Bool) (b : Contents X) (p : Place) (told : Told) : Type 0 where
+  pub on-record : countOn b p ≡ Some (told .count)
+  pub defined : Counted le b → told .count ≡ countAt le (terrainOf (b .plan) (b .records)) (radiusOf (b .plan)) p
+  pub cells : told .cells ≡ windowSize (terrainOf (b .plan) (b .records)) (radiusOf (b .plan)) p
+
+-- what an accepted tell answers
+abbrev pub TellAnswer : {X C : Type 0} → (X → X → Bool) → Contents X → (x y : ℕ) → Result Told (Denial C) → Type 0
+TellAnswer le b x y (Ok told) = TellsCount le b (record { x = x; y = y }) told
+TellAnswer le b x y (Err denial) = Unit {0}
 
 -- what nearest asks: 1 the plan, 4 the cell
 abbrev pub nearestQuestions : {X : Type 0} → Contents X → (x y : ℕ) → List (ℕ × Bool)

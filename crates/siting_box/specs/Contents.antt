@@ -1,14 +1,19 @@
 -- What a box holds: a plan or none, and its cell records.
-use mathlib.Core.Bool.{Bool, true, _&&_}
+use mathlib.Core.Path.{_≡_}
+use mathlib.Core.Bool.{Bool, true, false, cond, _&&_}
 use mathlib.Core.List.{List, []}
 use Prim.Native.Nat.{ℕ, _*_}
-use lib.Dec.{leb}
+use lib.Dec.{leb, ltb}
 use lib.ListN.{take}
+use Rattle.std.specs.Options.{mapped}
+use Rattle.std.specs.shelf.Maps.{nth}
 use Rattle.std.specs.declared.option.Option.{Option}
 use Rattle.std.specs.declared.option.Option.the-variants.{Some, None}
 use Rattle.grid.specs.declared.Plan.{Plan}
 use Rattle.grid.specs.declared.CellRecord.{CellRecord}
-use Rattle.grid.specs.Terrain.{Terrain, heightsOf}
+use Rattle.grid.specs.declared.Place.{Place}
+use Rattle.grid.specs.Terrain.{Terrain, Inside, readingIndex, heightsOf}
+use Rattle.grid.specs.Window.{countAt}
 
 -- the plan, and all records fitted; the plan's cells are the first of them in reading order
 pub record Contents (X : Type 0) : Type 0 where
@@ -36,3 +41,21 @@ wellFitted (Some p) fitted = fitsIn p fitted
 abbrev pub terrainOf : {X : Type 0} → Option Plan → List (CellRecord X) → Terrain X
 terrainOf None records = record { width = 0; rows = 0; heights = [] }
 terrainOf (Some p) records = record { width = p .width; rows = p .rows; heights = heightsOf (take (p .width * p .rows) records) }
+
+-- the radius of a plan's windows
+abbrev pub radiusOf : Option Plan → ℕ
+radiusOf None = 0
+radiusOf (Some p) = p .radius
+
+-- whether a row is swept
+abbrev pub isSwept : Option Plan → ℕ → Bool
+isSwept None y = false
+isSwept (Some p) y = ltb y (p .swept)
+
+-- the count on record of a cell
+abbrev pub countOn : {X : Type 0} → Contents X → Place → Option ℕ
+countOn b q = mapped (λ c. c .count) (nth (b .records) (readingIndex (terrainOf (b .plan) (b .records) .width) q))
+
+-- every count in a swept row is the defined one, and every other count of the plan is 0
+abbrev pub Counted : {X : Type 0} → (X → X → Bool) → Contents X → Type 0
+Counted le b = (q : Place) → Inside (terrainOf (b .plan) (b .records)) q → countOn b q ≡ Some (cond (isSwept (b .plan) (q .y)) (countAt le (terrainOf (b .plan) (b .records)) (radiusOf (b .plan)) q) 0)

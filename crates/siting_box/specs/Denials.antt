@@ -7,9 +7,9 @@ use Rattle.std.specs.declared.option.Option.the-variants.{Some, None}
 use Rattle.std.specs.declared.result.Result.{Result}
 use Rattle.std.specs.declared.result.Result.the-variants.{Ok, Err}
 use Rattle.siting_box.specs.declared.denial.Denial.{Denial}
-use Rattle.siting_box.specs.declared.denial.Denial.the-variants.{NoPlan, Sizes, TooFewRecords, Outside, StoredLength, Unread}
+use Rattle.siting_box.specs.declared.denial.Denial.the-variants.{NoPlan, Sizes, TooFewRecords, Outside, StoredLength, Unread, NoRowLeft, TooFewPlaces, NotSwept}
 use Rattle.siting_box.specs.declared.denial.Layer.{Layer}
-use Rattle.siting_box.specs.declared.denial.Layer.the-variants.{Reader, Kind, Plan}
+use Rattle.siting_box.specs.declared.denial.Layer.the-variants.{Reader, Kind, Counter, Plan}
 
 -- the number of the question that was answered no
 abbrev pub number : {C : Type 0} → Denial C → ℕ
@@ -19,6 +19,9 @@ number TooFewRecords = 3
 number Outside = 4
 number StoredLength = 5
 number (Unread cause x y) = 6
+number NoRowLeft = 7
+number TooFewPlaces = 8
+number NotSwept = 9
 
 -- the layer that asked it
 abbrev pub layer : {C : Type 0} → Denial C → Layer
@@ -28,6 +31,9 @@ layer TooFewRecords = Plan
 layer Outside = Plan
 layer StoredLength = Reader
 layer (Unread cause x y) = Kind
+layer NoRowLeft = Plan
+layer TooFewPlaces = Counter
+layer NotSwept = Plan
 
 -- the number by which a call was denied, if it was
 abbrev pub deniedBy : {A C : Type 0} → Result A (Denial C) → Option ℕ

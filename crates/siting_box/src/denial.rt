@@ -10,7 +10,14 @@ pub enum Denial<C> {
     TooFewRecords,
     Outside,
     StoredLength,
-    Unread { cause: C, x: usize, y: usize },
+    Unread {
+        cause: C,
+        x: usize,
+        y: usize,
+    },
+    NoRowLeft,
+    TooFewPlaces,
+    NotSwept,
 }
 
 // Which layer denied a call.
@@ -35,6 +42,9 @@ impl<C: Copy> Denial<C> {
             Denial::Outside => 4,
             Denial::StoredLength => 5,
             Denial::Unread { .. } => 6,
+            Denial::NoRowLeft => 7,
+            Denial::TooFewPlaces => 8,
+            Denial::NotSwept => 9,
         }
     }
 
@@ -45,6 +55,7 @@ impl<C: Copy> Denial<C> {
         match self {
             Denial::StoredLength => Layer::Reader,
             Denial::Unread { .. } => Layer::Kind,
+            Denial::TooFewPlaces => Layer::Counter,
             _ => Layer::Plan,
         }
     }

@@ -4,7 +4,10 @@ mod denial;
 mod parts;
 mod search;
 mod stored;
+mod told;
+mod window;
 
 pub use boxes::SitingBox;
 pub use denial::Denial;
 pub use denial::Layer;
+pub use told::Told;

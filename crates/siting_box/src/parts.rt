@@ -8,11 +8,14 @@ ghost use Rattle.heights.specs.Meaning.{storage};
 ghost use Rattle.siting_box.specs.InParts.{partsContents};
 ghost use Rattle.siting_box.specs.Denials.{deniedBy, firstNo};
 ghost use Rattle.siting_box.specs.Contents.{wellFitted, lawfulSizes};
-ghost use Rattle.siting_box.specs.Calls.{openQuestions, OpenLeaves, nearestQuestions, NearestAnswer};
+ghost use Rattle.siting_box.specs.Calls.{openQuestions, OpenLeaves, nearestQuestions, NearestAnswer, tellQuestions, TellAnswer};
 use crate::denial::Denial;
 use crate::search;
 use crate::stored::fill;
 use crate::stored::first_failure;
+use crate::told::Told;
+use crate::window::count_at;
+use crate::window::extent;
 use grid::CellRecord;
 use grid::Higher;
 use grid::Place;
@@ -85,6 +88,27 @@ impl<'a, H: HeightKind> Parts<'a, H> {
             swept: 0,
         });
         Ok(())
+    }
+
+    // The count of a cell and the number of cells in its window.
+    pub(crate) fn tell(&self, x: usize, y: usize) -> Result<Told, Denial<H::Cause>>
+        requires { ⌜ wellFitted (now self .plan) (length (now (now self .records))) ≡ true ⌝ }
+        ensures denial { λ r. ⌜ deniedBy r ≡ firstNo (tellQuestions (partsContents (now (self .entry))) x y) ⌝ }
+        ensures answer { λ r. ⌜ TellAnswer (H·Height .notHigher) (partsContents (now (self .entry))) x y r ⌝ }
+    {
+        let Some(plan) = self.plan else {
+            return Err(Denial::NoPlan);
+        };
+        if x >= plan.width || y >= plan.rows {
+            return Err(Denial::Outside);
+        }
+        if y >= plan.swept {
+            return Err(Denial::NotSwept);
+        }
+        let count = count_at(self.records, y * plan.width + x);
+        let columns = extent(x, plan.radius, plan.width);
+        let rows = extent(y, plan.radius, plan.rows);
+        Ok(Told { count, cells: (columns * rows) as u32 })
     }
 
     // The nearest cell that is strictly higher than one.

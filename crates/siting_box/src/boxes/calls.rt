@@ -7,10 +7,11 @@ ghost use Rattle.heights.specs.Meaning.{storage};
 ghost use Rattle.siting_box.specs.Boxes.{boxContents};
 ghost use Rattle.siting_box.specs.Contents.{contents};
 ghost use Rattle.siting_box.specs.Denials.{deniedBy, firstNo};
-ghost use Rattle.siting_box.specs.Calls.{openQuestions, OpenLeaves, nearestQuestions, NearestAnswer};
+ghost use Rattle.siting_box.specs.Calls.{openQuestions, OpenLeaves, nearestQuestions, NearestAnswer, tellQuestions, TellAnswer};
 use super::SitingBox;
 use crate::denial::Denial;
 use crate::parts::Parts;
+use crate::told::Told;
 use grid::CellRecord;
 use grid::Higher;
 use heights::height::HeightKind;
@@ -42,6 +43,14 @@ impl<'a, H: HeightKind> SitingBox<'a, H> {
         ensures lent { λ _. ⌜ name (now (self .exit) .parts .records) ≡ name (now (self .entry) .parts .records) ⌝ }
     {
         self.parts.open(width, rows, radius, bytes)
+    }
+
+    // The count of the cell in column x of row y, and the number of cells in its window.
+    pub fn tell(&self, x: usize, y: usize) -> Result<Told, Denial<H::Cause>>
+        ensures denial { λ r. ⌜ deniedBy r ≡ firstNo (tellQuestions (boxContents (now (self .entry))) x y) ⌝ }
+        ensures answer { λ r. ⌜ TellAnswer (H·Height .notHigher) (boxContents (now (self .entry))) x y r ⌝ }
+    {
+        self.parts.tell(x, y)
     }
 
     // The nearest cell that is strictly higher than the one in column x of row y, and their squared distance.
