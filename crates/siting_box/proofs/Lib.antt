@@ -1,3 +1,5 @@
+pub mod Counting
+pub mod Places
 pub mod Plans
 pub mod Readings
 pub mod Searches

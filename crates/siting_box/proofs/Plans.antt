@@ -34,16 +34,16 @@ pub record Fitting (p : Plan) (fitted : ℕ) : Type 0 where
   pub recorded : p .width * p .rows ≤ fitted
 
 pub fitting : (p : Plan) (fitted : ℕ) → fitsIn p fitted ≡ true → Fitting p fitted
-fitting p fitted e = record
-  { some-columns = grind (arith, tells)
-  ; columns = grind (arith, tells)
-  ; some-rows = grind (arith, tells)
-  ; rows = grind (arith, tells)
-  ; some-radius = grind (arith, tells)
-  ; radius = grind (arith, tells)
-  ; swept = grind (arith, tells)
-  ; recorded = grind (arith, tells)
-  }
+fitting p fitted e = record {
+  some-columns = grind (arith, tells);
+  columns = grind (arith, tells);
+  some-rows = grind (arith, tells);
+  rows = grind (arith, tells);
+  some-radius = grind (arith, tells);
+  radius = grind (arith, tells);
+  swept = grind (arith, tells);
+  recorded = grind (arith, tells);
+}
 
 -- a cell of the plan has a record
 pub cell-recorded : (p : Plan) (fitted x y : ℕ) → fitsIn p fitted ≡ true → x < p .width → y < p .rows → y * p .width + x < fitted
@@ -72,11 +72,11 @@ tells-plan {X} le p records x y count cells fit column row swept on size =
     let count-is : count ≡ found .0 .count = on (found .0) ∙ ap (λ (c : CellRecord X). c .count) (found .2 (found .0)) in
     let recorded : countOn (contents (Some p) records) place ≡ Some count = ap (mapped (λ (c : CellRecord X). c .count)) (found .1) ∙ ap Some (sym count-is) in
     let test : ltb y (p .swept) ≡ true = grind (arith, tells) in
-    record
-      { on-record = recorded
-      ; defined = λ counted. same-some count _ (sym recorded ∙ counted place (column, row) ∙ ap (λ b. Some (cond b (countAt le (terrainOf (Some p) records) (p .radius) place) 0)) test)
-      ; cells = size ∙ sym (window-size-is (terrainOf (Some p) records) (p .radius) place)
-      }
+    record {
+      on-record = recorded;
+      defined = λ counted. same-some count _ (sym recorded ∙ counted place (column, row) ∙ ap (λ b. Some (cond b (countAt le (terrainOf (Some p) records) (p .radius) place) 0)) test);
+      cells = size ∙ sym (window-size-is (terrainOf (Some p) records) (p .radius) place);
+    }
 
 -- the same of the plan that a box holds
 pub tells-count : {X : Type 0} (le : X → X → Bool) (o : Option Plan) (p : Plan) (records : List (CellRecord X)) (x y count cells : ℕ)

@@ -4,7 +4,7 @@ use mathlib.Core.Bool.{Bool, false, _&&_}
 use mathlib.Core.List.{List, [], _∷_, _++_, map}
 use Prim.Native.Nat.{ℕ, _+_, _*_, _<_}
 use lib.Dec.{eqb, leb, ltb}
-use lib.ListN.{length, drop}
+use lib.ListN.{length, take, drop}
 use Rattle.std.specs.Options.{isSome}
 use Rattle.std.specs.Results.{isOk}
 use Rattle.std.specs.declared.option.Option.{Option}
@@ -12,12 +12,14 @@ use Rattle.std.specs.declared.option.Option.the-variants.{Some, None}
 use Rattle.std.specs.declared.result.Result.{Result}
 use Rattle.std.specs.declared.result.Result.the-variants.{Ok, Err}
 use Rattle.heights.specs.Meaning.{Storage}
+use Rattle.counters.specs.Calls.{View}
 use Rattle.grid.specs.declared.Higher.{Higher}
 use Rattle.grid.specs.declared.Place.{Place}
 use Rattle.grid.specs.declared.Plan.{Plan}
 use Rattle.grid.specs.declared.CellRecord.{CellRecord}
 use Rattle.grid.specs.Nearest.{Nearest}
 use Rattle.grid.specs.Window.{countAt, windowSize}
+use Rattle.sweep.specs.Sweeping.{placesNeeded, Swept}
 use Rattle.siting_box.specs.declared.denial.Denial.{Denial}
 use Rattle.siting_box.specs.declared.denial.Denial.the-variants.{NoPlan, Sizes, TooFewRecords, Outside, StoredLength, Unread, NoRowLeft, TooFewPlaces, NotSwept}
 use Rattle.siting_box.specs.declared.told.Told.{Told}
@@ -65,6 +67,39 @@ Blames k width rows bytes NotSwept = Unit {0}
 abbrev pub OpenLeaves : {X C : Type 0} → Storage X C → (width rows radius : ℕ) → List ℕ → (before after : Contents X) → Result Unit (Denial C) → Type 0
 OpenLeaves k width rows radius bytes before after (Ok answer) = Opened k width rows radius bytes before after
 OpenLeaves k width rows radius bytes before after (Err denial) = (after ≡ before) × Blames k width rows bytes denial
+
+-- 7: is a row left
+abbrev pub rowLeft : Option Plan → Bool
+rowLeft None = false
+rowLeft (Some p) = ltb (p .swept) (p .rows)
+
+-- 8: has the counter places for the largest window that the plan can have
+abbrev pub hasPlaces : Option Plan → ℕ → Bool
+hasPlaces None places = false
+hasPlaces (Some p) places = leb (placesNeeded (p .width) (p .rows) (p .radius)) places
+
+-- what sweep asks: 1 the plan, 7 the row, 8 the counter's places
+abbrev pub sweepQuestions : {X : Type 0} → Contents X → ℕ → List (ℕ × Bool)
+sweepQuestions b places = (1, holdsPlan b) ∷ ((7, rowLeft (b .plan)) ∷ ((8, hasPlaces (b .plan) places) ∷ []))
+
+-- a plan with one row more swept
+abbrev pub withRow : Plan → Plan
+withRow p = record { width = p .width; rows = p .rows; radius = p .radius; swept = p .swept + 1 }
+
+-- what an accepted sweep leaves: the plan with one row more swept, its cells as the sweep of that row leaves them, and the
+-- records beyond as they were
+pub record SweptPlan {X : Type 0} (le : X → X → Bool) (before after : Contents X) (old new : View X) (mileage : ℕ) : Type 0 where
+  pub plan : Plan
+  pub plan-is : before .plan ≡ Some plan
+  pub plan-after : after .plan ≡ Some (withRow plan)
+  pub cells : List (CellRecord X)
+  pub records-after : after .records ≡ cells ++ drop (plan .width * plan .rows) (before .records)
+  pub row : Swept le (terrainOf (Some plan) (before .records)) (plan .radius) (plan .swept) (take (plan .width * plan .rows) (before .records)) cells old new mileage
+
+-- what sweep leaves: a denied sweep changes nothing
+abbrev pub SweepLeaves : {X C : Type 0} → (X → X → Bool) → (before after : Contents X) → (old new : View X) → Result ℕ (Denial C) → Type 0
+SweepLeaves le before after old new (Ok mileage) = SweptPlan le before after old new mileage
+SweepLeaves le before after old new (Err denial) = (after ≡ before) × (new ≡ old)
 
 -- what tell asks: 1 the plan, 4 the cell, 9 that its row is swept
 abbrev pub tellQuestions : {X : Type 0} → Contents X → (x y : ℕ) → List (ℕ × Bool)

@@ -10,11 +10,7 @@ pub enum Denial<C> {
     TooFewRecords,
     Outside,
     StoredLength,
-    Unread {
-        cause: C,
-        x: usize,
-        y: usize,
-    },
+    Unread { cause: C, x: usize, y: usize },
     NoRowLeft,
     TooFewPlaces,
     NotSwept,

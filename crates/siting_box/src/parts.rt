@@ -8,7 +8,7 @@ ghost use Rattle.heights.specs.Meaning.{storage};
 ghost use Rattle.siting_box.specs.InParts.{partsContents};
 ghost use Rattle.siting_box.specs.Denials.{deniedBy, firstNo};
 ghost use Rattle.siting_box.specs.Contents.{wellFitted, lawfulSizes};
-ghost use Rattle.siting_box.specs.Calls.{openQuestions, OpenLeaves, nearestQuestions, NearestAnswer, tellQuestions, TellAnswer};
+ghost use Rattle.siting_box.specs.Calls.{openQuestions, OpenLeaves, nearestQuestions, NearestAnswer, tellQuestions, TellAnswer, sweepQuestions, SweepLeaves};
 use crate::denial::Denial;
 use crate::search;
 use crate::stored::fill;
@@ -16,11 +16,13 @@ use crate::stored::first_failure;
 use crate::told::Told;
 use crate::window::count_at;
 use crate::window::extent;
+use counters::counter::Counter;
 use grid::CellRecord;
 use grid::Higher;
 use grid::Place;
 use grid::Plan;
 use heights::height::HeightKind;
+use sweep::row::sweep_row;
 
 // The longest side of a grid.
 const LONGEST_SIDE: usize = 1024;
@@ -90,6 +92,45 @@ impl<'a, H: HeightKind> Parts<'a, H> {
         Ok(())
     }
 
+    // Sweeps the next row with a counter and answers the counter's mileage.
+    pub(crate) fn sweep<C: Counter<Kind = H>>(
+        &mut self,
+        counter: &mut C,
+    ) -> Result<u64, Denial<H::Cause>>
+        requires { ⌜ wellFitted (now self .plan) (length (now (now self .records))) ≡ true ⌝ }
+        ensures fitted { λ _. ⌜ wellFitted (now (self .exit) .plan) (length (now (now (self .exit) .records))) ≡ true ⌝ }
+        ensures denial { λ r. ⌜ deniedBy r ≡ firstNo (sweepQuestions (partsContents (now (self .entry))) (C·Counter .view (now (counter .entry)) .places)) ⌝ }
+        ensures leaves { λ r. ⌜ SweepLeaves (H·Height .notHigher) (partsContents (now (self .entry))) (partsContents (now (self .exit))) (C·Counter .view (now (counter .entry))) (C·Counter .view (now (counter .exit))) r ⌝ }
+        ensures sound { λ _. ⌜ (C·Counter .sound (now (counter .entry)) → C·Counter .sound (now (counter .exit))) ⌝ }
+        ensures lent { λ _. ⌜ name (now (self .exit) .records) ≡ name (now (self .entry) .records) ⌝ }
+    {
+        let Some(plan) = self.plan else {
+            return Err(Denial::NoPlan);
+        };
+        if plan.swept >= plan.rows {
+            return Err(Denial::NoRowLeft);
+        }
+        let cells = plan.width * plan.rows;
+        let Some(mileage) = sweep_row(
+            counter,
+            &mut self.records[0..cells],
+            plan.width,
+            plan.rows,
+            plan.radius,
+            plan.swept,
+        ) else {
+            return Err(Denial::TooFewPlaces);
+        };
+        let swept = plan.swept + 1;
+        self.plan = Some(Plan {
+            width: plan.width,
+            rows: plan.rows,
+            radius: plan.radius,
+            swept,
+        });
+        Ok(mileage)
+    }
+
     // The count of a cell and the number of cells in its window.
     pub(crate) fn tell(&self, x: usize, y: usize) -> Result<Told, Denial<H::Cause>>
         requires { ⌜ wellFitted (now self .plan) (length (now (now self .records))) ≡ true ⌝ }
@@ -108,7 +149,10 @@ impl<'a, H: HeightKind> Parts<'a, H> {
         let count = count_at(self.records, y * plan.width + x);
         let columns = extent(x, plan.radius, plan.width);
         let rows = extent(y, plan.radius, plan.rows);
-        Ok(Told { count, cells: (columns * rows) as u32 })
+        Ok(Told {
+            count,
+            cells: (columns * rows) as u32,
+        })
     }
 
     // The nearest cell that is strictly higher than one.

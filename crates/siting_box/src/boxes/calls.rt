@@ -5,13 +5,14 @@ ghost use denote.Ref.{name};
 ghost use Rattle.std.specs.declared.option.Option.the-variants.{None};
 ghost use Rattle.heights.specs.Meaning.{storage};
 ghost use Rattle.siting_box.specs.Boxes.{boxContents};
-ghost use Rattle.siting_box.specs.Contents.{contents};
+ghost use Rattle.siting_box.specs.Contents.{contents, Counted};
 ghost use Rattle.siting_box.specs.Denials.{deniedBy, firstNo};
-ghost use Rattle.siting_box.specs.Calls.{openQuestions, OpenLeaves, nearestQuestions, NearestAnswer, tellQuestions, TellAnswer};
+ghost use Rattle.siting_box.specs.Calls.{openQuestions, OpenLeaves, nearestQuestions, NearestAnswer, tellQuestions, TellAnswer, sweepQuestions, SweepLeaves};
 use super::SitingBox;
 use crate::denial::Denial;
 use crate::parts::Parts;
 use crate::told::Told;
+use counters::counter::Counter;
 use grid::CellRecord;
 use grid::Higher;
 use heights::height::HeightKind;
@@ -20,6 +21,7 @@ impl<'a, H: HeightKind> SitingBox<'a, H> {
     // A box that holds no plan.
     pub fn new(records: &'a mut [CellRecord<H>]) -> SitingBox<'a, H>
         ensures empty { λ r. ⌜ boxContents r ≡ contents None (now (records .entry)) ⌝ }
+        ensures counts { λ r. ⌜ Counted (H·Height .notHigher) (boxContents r) ⌝ }
         ensures lent { λ r. ⌜ name (r .parts .records) ≡ name (records .entry) ⌝ }
     {
         SitingBox {
@@ -40,9 +42,21 @@ impl<'a, H: HeightKind> SitingBox<'a, H> {
     ) -> Result<(), Denial<H::Cause>>
         ensures denial { λ r. ⌜ deniedBy r ≡ firstNo (openQuestions (storage H·HeightKind) (boxContents (now (self .entry))) width rows radius (now (bytes .entry))) ⌝ }
         ensures leaves { λ r. ⌜ OpenLeaves (storage H·HeightKind) width rows radius (now (bytes .entry)) (boxContents (now (self .entry))) (boxContents (now (self .exit))) r ⌝ }
+        ensures counts { λ _. ⌜ (Counted (H·Height .notHigher) (boxContents (now (self .entry))) → Counted (H·Height .notHigher) (boxContents (now (self .exit)))) ⌝ }
         ensures lent { λ _. ⌜ name (now (self .exit) .parts .records) ≡ name (now (self .entry) .parts .records) ⌝ }
     {
         self.parts.open(width, rows, radius, bytes)
+    }
+
+    // Sweeps the next row with a counter, which records the counts of that row, and answers the counter's mileage.
+    pub fn sweep<C: Counter<Kind = H>>(&mut self, counter: &mut C) -> Result<u64, Denial<H::Cause>>
+        ensures denial { λ r. ⌜ deniedBy r ≡ firstNo (sweepQuestions (boxContents (now (self .entry))) (C·Counter .view (now (counter .entry)) .places)) ⌝ }
+        ensures leaves { λ r. ⌜ SweepLeaves (H·Height .notHigher) (boxContents (now (self .entry))) (boxContents (now (self .exit))) (C·Counter .view (now (counter .entry))) (C·Counter .view (now (counter .exit))) r ⌝ }
+        ensures counts { λ _. ⌜ (Counted (H·Height .notHigher) (boxContents (now (self .entry))) → Counted (H·Height .notHigher) (boxContents (now (self .exit)))) ⌝ }
+        ensures sound { λ _. ⌜ (C·Counter .sound (now (counter .entry)) → C·Counter .sound (now (counter .exit))) ⌝ }
+        ensures lent { λ _. ⌜ name (now (self .exit) .parts .records) ≡ name (now (self .entry) .parts .records) ⌝ }
+    {
+        self.parts.sweep(counter)
     }
 
     // The count of the cell in column x of row y, and the number of cells in its window.

@@ -15,7 +15,7 @@ count-at-count-requires g c κs =
 pub returns : need.returns
 returns g c =
     let fit : fitsIn (c .in-Some .plan) (length (c .args .self .now .records .now)) ≡ true = subst (λ o. wellFitted o (length (c .args .self .now .records .now)) ≡ true) (c .in-Some .is) (c .pre) in
-    record
-      { denial = search needs
-      ; answer = tells-count (g .H·Height .notHigher) (c .args .self .now .plan) (c .in-Some .plan) (c .args .self .now .records .now) (c .args .x) (c .args .y) _ _ (c .in-Some .is) fit (omega arith) (omega arith) (omega arith) (c .count-at-count .ensures) (cc (c .extent-columns .ensures .exact, c .extent-rows .ensures .exact))
-      }
+    record {
+      denial = search needs;
+      answer = tells-count (g .H·Height .notHigher) (c .args .self .now .plan) (c .in-Some .plan) (c .args .self .now .records .now) (c .args .x) (c .args .y) _ _ (c .in-Some .is) fit (omega arith) (omega arith) (omega arith) (c .count-at-count .ensures) (cc (c .extent-columns .ensures .exact, c .extent-rows .ensures .exact));
+    }
