@@ -10,14 +10,16 @@ use Rattle.std.specs.declared.option.Option.the-variants.{Some, None}
 use Rattle.std.specs.declared.result.Result.{Result}
 use Rattle.std.specs.declared.result.Result.the-variants.{Ok, Err}
 use Rattle.heights.specs.Meaning.{Storage}
+use Rattle.counters.specs.Calls.{View}
 use Rattle.grid.specs.declared.Higher.{Higher}
 use Rattle.siting_box.specs.declared.denial.Denial.{Denial}
-use Rattle.siting_box.specs.declared.denial.Denial.the-variants.{NoPlan, Sizes, TooFewRecords, Outside, StoredLength, Unread}
+use Rattle.siting_box.specs.declared.denial.Denial.the-variants.{NoPlan, Sizes, TooFewRecords, Outside, StoredLength, Unread, NoRowLeft, TooFewPlaces, NotSwept}
 use Rattle.siting_box.specs.Contents.{Contents}
 use Rattle.siting_box.specs.Denials.{number, deniedBy, firstNo}
-use Rattle.siting_box.specs.Calls.{openQuestions, OpenLeaves, nearestQuestions, NearestAnswer}
+use Rattle.siting_box.specs.declared.told.Told.{Told}
+use Rattle.siting_box.specs.Calls.{openQuestions, OpenLeaves, sweepQuestions, SweepLeaves, tellQuestions, TellAnswer, nearestQuestions, NearestAnswer}
 use Rattle.console_text.specs.declared.answers.Answer.{Answer}
-use Rattle.console_text.specs.declared.answers.Answer.the-variants.{Done, Nearest, Denied, DeniedAt}
+use Rattle.console_text.specs.declared.answers.Answer.the-variants as answer
 use Rattle.console_text.specs.declared.commands.KindLetter.{KindLetter}
 use Rattle.console_text.specs.declared.commands.CounterLetter.{CounterLetter}
 use Rattle.console_text.specs.declared.commands.Command.{Command}
@@ -27,21 +29,34 @@ use Rattle.console_text.specs.Commands.{Spells}
 
 -- a denial is told by its number; by question 6 with the cell
 abbrev pub denialAnswer : {C : Type 0} → Denial C → Answer
-denialAnswer NoPlan = Denied 1
-denialAnswer Sizes = Denied 2
-denialAnswer TooFewRecords = Denied 3
-denialAnswer Outside = Denied 4
-denialAnswer StoredLength = Denied 5
-denialAnswer (Unread cause x y) = DeniedAt 6 x y
+denialAnswer NoPlan = answer.Denied 1
+denialAnswer Sizes = answer.Denied 2
+denialAnswer TooFewRecords = answer.Denied 3
+denialAnswer Outside = answer.Denied 4
+denialAnswer StoredLength = answer.Denied 5
+denialAnswer (Unread cause x y) = answer.DeniedAt 6 x y
+denialAnswer NoRowLeft = answer.Denied 7
+denialAnswer TooFewPlaces = answer.Denied 8
+denialAnswer NotSwept = answer.Denied 9
 
 -- the answer to open
 abbrev pub openAnswer : {C : Type 0} → Result Unit (Denial C) → Answer
-openAnswer (Ok done) = Done
+openAnswer (Ok done) = answer.Done
 openAnswer (Err denial) = denialAnswer denial
+
+-- the answer to sweep: the steps
+abbrev pub sweepAnswer : {C : Type 0} → Result ℕ (Denial C) → Answer
+sweepAnswer (Ok mileage) = answer.Steps mileage
+sweepAnswer (Err denial) = denialAnswer denial
+
+-- the answer to tell
+abbrev pub tellAnswer : {C : Type 0} → Result Told (Denial C) → Answer
+tellAnswer (Ok told) = answer.Told (told .count) (told .cells)
+tellAnswer (Err denial) = denialAnswer denial
 
 -- the answer to nearest
 abbrev pub nearestAnswer : {C : Type 0} → Result (Option Higher) (Denial C) → Answer
-nearestAnswer (Ok found) = Nearest found
+nearestAnswer (Ok found) = answer.Nearest found
 nearestAnswer (Err denial) = denialAnswer denial
 
 -- the box was opened, or denied it, and that is what was answered
@@ -51,6 +66,20 @@ pub record OpenCarried {X C : Type 0} (k : Storage X C) (width rows radius : ℕ
   pub leaves : OpenLeaves k width rows radius (bytesOf digits) before after result
   pub answer-is : answer ≡ openAnswer result
 
+-- the next row was swept, or the box denied it, and that is what was answered
+pub record SweepCarried {X C : Type 0} (k : Storage X C) (le : X → X → Bool) (before after : Contents X) (old new : View X) (answer : Answer) : Type 0 where
+  pub result : Result ℕ (Denial C)
+  pub denial : deniedBy result ≡ firstNo (sweepQuestions before (old .places))
+  pub leaves : SweepLeaves le before after old new result
+  pub answer-is : answer ≡ sweepAnswer result
+
+-- the box told a count, or denied it, and that is what was answered
+pub record TellCarried {X C : Type 0} (k : Storage X C) (le : X → X → Bool) (x y : ℕ) (b : Contents X) (answer : Answer) : Type 0 where
+  pub result : Result Told (Denial C)
+  pub denial : deniedBy result ≡ firstNo (tellQuestions b x y)
+  pub told : TellAnswer le b x y result
+  pub answer-is : answer ≡ tellAnswer result
+
 -- the box found what is nearest, or denied it, and that is what was answered
 pub record NearestCarried {X C : Type 0} (k : Storage X C) (le : X → X → Bool) (x y : ℕ) (b : Contents X) (answer : Answer) : Type 0 where
   pub result : Result (Option Higher) (Denial C)
@@ -58,24 +87,24 @@ pub record NearestCarried {X C : Type 0} (k : Storage X C) (le : X → X → Boo
   pub found : NearestAnswer le b x y result
   pub answer-is : answer ≡ nearestAnswer result
 
--- the line is denied, and the box stands as it did; 13 is "is the line one of the console's forms"
-abbrev pub NoForm : {X : Type 0} → (before after : Contents X) → Answer → Type 0
-NoForm before after answer = (after ≡ before) × (answer ≡ Denied 13)
+-- the line is denied, and box and counter stand as they did; 13 is "is the line one of the console's forms"
+abbrev pub NoForm : {X : Type 0} → (before after : Contents X) → (old new : View X) → Answer → Type 0
+NoForm before after old new told = (after ≡ before) × (new ≡ old) × (told ≡ answer.Denied 13)
 
--- what a command does and what is answered; a later choice of kind and counter is no form
-abbrev pub Carried : {X C : Type 0} → Storage X C → (X → X → Bool) → Command → (before after : Contents X) → Answer → Type 0
-Carried k le (command.Choose kind counter) before after answer = NoForm before after answer
-Carried k le (command.Open width rows radius digits) before after answer = OpenCarried k width rows radius (digits .now) before after answer
-Carried k le command.Sweep before after answer = NoForm before after answer
-Carried k le (command.Tell x y) before after answer = NoForm before after answer
-Carried k le (command.Nearest x y) before after answer = (after ≡ before) × NearestCarried k le x y before answer
+-- what a command does to box and counter and what is answered; a later choice of kind and counter is no form
+abbrev pub Carried : {X C : Type 0} → Storage X C → (X → X → Bool) → Command → (before after : Contents X) → (old new : View X) → Answer → Type 0
+Carried k le (command.Choose kind counter) before after old new told = NoForm before after old new told
+Carried k le (command.Open width rows radius digits) before after old new told = OpenCarried k width rows radius (digits .now) before after told × (new ≡ old)
+Carried k le command.Sweep before after old new told = SweepCarried k le before after old new told
+Carried k le (command.Tell x y) before after old new told = TellCarried k le x y before told × (after ≡ before) × (new ≡ old)
+Carried k le (command.Nearest x y) before after old new told = NearestCarried k le x y before told × (after ≡ before) × (new ≡ old)
 
 -- a line is served: the command that it writes is carried out; a line that writes none, or is too long, is denied
-abbrev pub Served : {X C : Type 0} → Storage X C → (X → X → Bool) → Option (List ℕ) → (before after : Contents X) → Answer → Type 0
-Served k le None before after answer = NoForm before after answer
-Served k le (Some line) before after answer =
-    ((command : Command) × Spells command line × Carried k le command before after answer)
-    ⊎ (((command : Command) → Spells command line → ⊥) × NoForm before after answer)
+abbrev pub Served : {X C : Type 0} → Storage X C → (X → X → Bool) → Option (List ℕ) → (before after : Contents X) → (old new : View X) → Answer → Type 0
+Served k le None before after old new told = NoForm before after old new told
+Served k le (Some line) before after old new told =
+    ((command : Command) × Spells command line × Carried k le command before after old new told)
+    ⊎ (((command : Command) → Spells command line → ⊥) × NoForm before after old new told)
 
 -- the digits of a command are pairs of hexadecimal digits, no more than a line can hold
 abbrev pub Decodable : Command → Type 0

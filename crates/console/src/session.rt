@@ -7,7 +7,7 @@ ghost use Rattle.heights.specs.Meaning.{storage};
 ghost use Rattle.console_text.specs.Hexadecimal.{HexPairs};
 ghost use Rattle.siting_box.specs.Boxes.{boxContents};
 ghost use Rattle.console.specs.Lines.{come};
-ghost use Rattle.console.specs.Sessions.{denialAnswer, OpenCarried, NearestCarried, Carried, Served, Decodable, ChosenBy};
+ghost use Rattle.console.specs.Sessions.{denialAnswer, OpenCarried, SweepCarried, TellCarried, NearestCarried, Carried, Served, Decodable, ChosenBy};
 use crate::line::Line;
 use console_text::Answer;
 use console_text::Command;
@@ -15,6 +15,7 @@ use console_text::CounterLetter;
 use console_text::KindLetter;
 use console_text::parse;
 use console_text::unhex;
+use counters::counter::Counter;
 use heights::height::HeightKind;
 use siting_box::Denial;
 use siting_box::SitingBox;
@@ -76,34 +77,52 @@ fn tell_nearest<H: HeightKind>(siting: &SitingBox<'_, H>, x: u32, y: u32) -> Ans
     }
 }
 
-// Carries out a command on a box and tells what came of it.
-fn carry_out<H: HeightKind>(siting: &mut SitingBox<'_, H>, command: Command<'_>) -> Answer
-    requires { ⌜ Decodable command ⌝ }
-    ensures carried { λ r. ⌜ Carried (storage H·HeightKind) (H·Height .notHigher) (command .entry) (boxContents (now (siting .entry))) (boxContents (now (siting .exit))) r ⌝ }
+// Sweeps the next row and tells the steps.
+fn sweep_next<H: HeightKind, C: Counter<Kind = H>>(siting: &mut SitingBox<'_, H>, counter: &mut C) -> Answer
+    ensures carried { λ r. ⌜ SweepCarried (storage H·HeightKind) (H·Height .notHigher) (boxContents (now (siting .entry))) (boxContents (now (siting .exit))) (C·Counter .view (now (counter .entry))) (C·Counter .view (now (counter .exit))) r ⌝ }
     ensures lent { λ _. ⌜ name (now (siting .exit) .parts .records) ≡ name (now (siting .entry) .parts .records) ⌝ }
 {
-    match command {
-        Command::Open {
-            width,
-            rows,
-            radius,
-            digits,
-        } => open_plan(siting, width, rows, radius, digits),
-        Command::Nearest { x, y } => tell_nearest(siting, x, y),
-        _ => Answer::Denied { number: NO_FORM },
+    match siting.sweep(counter) {
+        Ok(mileage) => Answer::Steps(mileage),
+        Err(denial) => denial_answer(denial),
     }
 }
 
-// Serves a line: what it asks of the box, and the answer.
-pub fn serve<H: HeightKind>(siting: &mut SitingBox<'_, H>, line: &Line) -> Answer
-    ensures served { λ r. ⌜ Served (storage H·HeightKind) (H·Height .notHigher) (come (now (line .entry))) (boxContents (now (siting .entry))) (boxContents (now (siting .exit))) r ⌝ }
+// Tells the count of a cell and the cells of its window.
+fn tell_count<H: HeightKind>(siting: &SitingBox<'_, H>, x: u32, y: u32) -> Answer
+    ensures { λ r. ⌜ TellCarried (storage H·HeightKind) (H·Height .notHigher) x y (boxContents (now (siting .entry))) r ⌝ }
+{
+    match siting.tell(x as usize, y as usize) {
+        Ok(told) => Answer::Told { count: u64::from(told.count), cells: u64::from(told.cells) },
+        Err(denial) => denial_answer(denial),
+    }
+}
+
+// Carries out a command on a box with a counter and tells what came of it.
+fn carry_out<H: HeightKind, C: Counter<Kind = H>>(siting: &mut SitingBox<'_, H>, counter: &mut C, command: Command<'_>) -> Answer
+    requires { ⌜ Decodable command ⌝ }
+    ensures carried { λ r. ⌜ Carried (storage H·HeightKind) (H·Height .notHigher) (command .entry) (boxContents (now (siting .entry))) (boxContents (now (siting .exit))) (C·Counter .view (now (counter .entry))) (C·Counter .view (now (counter .exit))) r ⌝ }
+    ensures lent { λ _. ⌜ name (now (siting .exit) .parts .records) ≡ name (now (siting .entry) .parts .records) ⌝ }
+{
+    match command {
+        Command::Choose { .. } => Answer::Denied { number: NO_FORM },
+        Command::Open { width, rows, radius, digits } => open_plan(siting, width, rows, radius, digits),
+        Command::Sweep => sweep_next(siting, counter),
+        Command::Tell { x, y } => tell_count(siting, x, y),
+        Command::Nearest { x, y } => tell_nearest(siting, x, y),
+    }
+}
+
+// Serves a line: what it asks of the box and the counter, and the answer.
+pub fn serve<H: HeightKind, C: Counter<Kind = H>>(siting: &mut SitingBox<'_, H>, counter: &mut C, line: &Line) -> Answer
+    ensures served { λ r. ⌜ Served (storage H·HeightKind) (H·Height .notHigher) (come (now (line .entry))) (boxContents (now (siting .entry))) (boxContents (now (siting .exit))) (C·Counter .view (now (counter .entry))) (C·Counter .view (now (counter .exit))) r ⌝ }
     ensures lent { λ _. ⌜ name (now (siting .exit) .parts .records) ≡ name (now (siting .entry) .parts .records) ⌝ }
 {
     let Some(text) = line.text() else {
         return Answer::Denied { number: NO_FORM };
     };
     match parse(text) {
-        Some(command) => carry_out(siting, command),
+        Some(command) => carry_out(siting, counter, command),
         None => Answer::Denied { number: NO_FORM },
     }
 }

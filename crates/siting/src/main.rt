@@ -8,6 +8,7 @@ use console_text::Answer;
 use console_text::CounterLetter;
 use console_text::KindLetter;
 use console_text::render;
+use counters::counter::Counter;
 use grid::CellRecord;
 use heights::float::FloatBits;
 use heights::float::FloatHeight;
@@ -16,6 +17,9 @@ use heights::height::HeightKind;
 use heights::whole::WholeHeight;
 use heights::whole::WholeMetres;
 use reader::Reader;
+use shift_array::array::ShiftArray;
+use shift_array::counter::ShiftArrayCounter;
+use shift_array::entry::Entry;
 use siting_box::SitingBox;
 use std::io;
 use std::io::Write;
@@ -46,55 +50,41 @@ fn wait_for_choice(
     Ok(None)
 }
 
-// Answers lines from a box over these records.
-fn serve_lines<H: HeightKind>(
-    rt: &LibcRuntime,
-    reader: &mut Reader,
-    line: &mut Line,
-    records: &mut [CellRecord<H>],
-) -> io::Result<()> {
+// Answers lines from a box over these records and with this counter.
+fn serve_lines<H: HeightKind, C: Counter<Kind = H>>(rt: &LibcRuntime, reader: &mut Reader, line: &mut Line, records: &mut [CellRecord<H>], counter: &mut C) -> io::Result<()> {
     let mut siting = SitingBox::new(records);
     for _ in 0..u64::MAX {
         if !reader.read_line(line)? {
             break;
         }
-        tell(rt, serve(&mut siting, line))?;
+        tell(rt, serve(&mut siting, counter, line))?;
     }
     Ok(())
 }
 
-// Serves heights in whole metres.
+// Serves heights in whole metres, with 1,024 records and 1,024 places.
 fn serve_whole(rt: &LibcRuntime, reader: &mut Reader, line: &mut Line) -> io::Result<()> {
-    let mut records = [CellRecord {
-        height: 0i16,
-        count: 0,
-    }; 1024];
-    serve_lines(rt, reader, line, &mut records)
+    let mut records = [CellRecord { height: 0i16, count: 0 }; 1024];
+    let mut entries = [Entry { height: 0i16, number: 0 }; 1027];
+    let mut counter = ShiftArray::over(&mut entries);
+    serve_lines(rt, reader, line, &mut records, &mut counter)
 }
 
-// Serves heights in floating-point metres.
+// Serves heights in floating-point metres, with 1,024 records and 1,024 places.
 fn serve_float(rt: &LibcRuntime, reader: &mut Reader, line: &mut Line) -> io::Result<()> {
-    let mut records = [CellRecord {
-        height: FloatBits { bits: 0 },
-        count: 0,
-    }; 1024];
-    serve_lines(rt, reader, line, &mut records)
+    let sea_level = FloatBits { bits: 0 };
+    let mut records = [CellRecord { height: sea_level, count: 0 }; 1024];
+    let mut entries = [Entry { height: sea_level, number: 0 }; 1027];
+    let mut counter = ShiftArray::over(&mut entries);
+    serve_lines(rt, reader, line, &mut records, &mut counter)
 }
 
 fn main(rt: LibcRuntime) -> io::Result<()> {
     let mut reader = Reader::new(rt.stdin());
     let mut line = Line::new();
     match wait_for_choice(&rt, &mut reader, &mut line)? {
-        Some((KindLetter::Whole, CounterLetter::ShiftArray)) => serve_whole(
-            &rt,
-            &mut reader,
-            &mut line,
-        ),
-        Some((KindLetter::Float, CounterLetter::ShiftArray)) => serve_float(
-            &rt,
-            &mut reader,
-            &mut line,
-        ),
+        Some((KindLetter::Whole, CounterLetter::ShiftArray)) => serve_whole(&rt, &mut reader, &mut line),
+        Some((KindLetter::Float, CounterLetter::ShiftArray)) => serve_float(&rt, &mut reader, &mut line),
         None => Ok(()),
     }
 }

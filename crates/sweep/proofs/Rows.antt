@@ -13,7 +13,7 @@ use Rattle.std.specs.Joined.{joined}
 use Rattle.std.specs.declared.option.Option.the-variants.{Some}
 use Rattle.counters.specs.Held.{Same}
 use Rattle.counters.specs.Calls.{View, Ran, still, begun}
-use Rattle.counters.proofs.Tallies.{same-equal, same-trans}
+use Rattle.counters.proofs.Tallies.{same-equal, same-sym, same-trans}
 use Rattle.grid.specs.declared.CellRecord.{CellRecord}
 use Rattle.grid.specs.Terrain.{Terrain, heightsOf, heightAt}
 use Rattle.grid.specs.Window.{countAt}
@@ -86,7 +86,7 @@ progress-end le t r y x before after old new first asked u mileage wide iny end 
     let outside : (i k : ℕ) → k < x → (i < y * w) ⊎ ((y + 1) * w ≤ i) → i ≡ y * w + k → ⊥ =
     (λ i k lt apart q. ⊎-elim (λ (low : i < y * w). omega arith) (λ (high : (y + 1) * w ≤ i). omega (arith, add-mul y 1 w)) apart) in
     let last : w - 1 + 1 ≡ x = omega arith in
-    let held = next-held le t r y (w - 1) in
+    let held = subst (λ k. Same le (columnsHeights t r y (w - 1 - r) (min w (w - 1 + r + 1))) (columnsHeights t r y (takenBefore r k) (putBefore w r k))) last (next-held le t r y (w - 1)) in
     record {
       heights = p .heights;
       counts = λ k d lt. p .counts d k (omega arith);
@@ -98,11 +98,7 @@ progress-end le t r y x before after old new first asked u mileage wide iny end 
       asked = asked;
       asked-is = asked-is;
       ran = subst (λ v. Ran le v (joined (turnCalls t r y) (counting 0 w)) new) begins (subst (λ k. Ran le u (joined (turnCalls t r y) (counting 0 k)) new) end (p .ran));
-      held = record {
-        tallies = λ f blind.
-            p .held .tallies f blind ∙ sym (subst (λ k. Same le (columnsHeights t r y (w - 1 - r) (min w (w - 1 + r + 1))) (columnsHeights t r y (takenBefore r k) (putBefore w r k))) last held .tallies f blind)
-            ∙ same-window le t r (w - 1) y (omega arith) iny .tallies f blind;
-      };
+      held = same-trans (p .held) (same-trans (same-sym held) (same-window le t r (w - 1) y (omega arith) iny));
     }
 
 -- a sweep keeps the places

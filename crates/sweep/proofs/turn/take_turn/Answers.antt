@@ -7,11 +7,12 @@ use Rattle.sweep.proofs.turn.take_turn.Needs as need
 pub change-columns-requires : need.change-columns-requires
 change-columns-requires g c κs =
     let b = c .args .band in
+    let bounds = put-bounds (b .width) (b .radius) (c .args .x) (c .pre .inside) in
     record {
       sound = c .pre .sound;
       lawful = c .pre .lawful;
       whole = c .pre .whole;
-      inside = (omega arith, omega arith);
+      inside = (omega (arith, bounds .1), omega arith);
       ready = turn-takes-ready (g .H·Height .notHigher) (terrain b (c .args .records .now)) (b .radius) (b .y) (c .args .x)
           (c .taken-before-taken .result) (c .saturating-sub-behind .result) (c .put-before-put .result) (c .min-ahead .result) (c .taken-before-taken .ensures) (c .saturating-sub-behind .ensures) (c .put-before-put .ensures) (c .min-ahead .ensures)
           (g .C·Counter .view (c .args .counter .now)) (c .pre .inside) (c .pre .lawful .3) (c .pre .places) (c .pre .held);
