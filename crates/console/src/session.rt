@@ -78,7 +78,10 @@ fn tell_nearest<H: HeightKind>(siting: &SitingBox<'_, H>, x: u32, y: u32) -> Ans
 }
 
 // Sweeps the next row and tells the steps.
-fn sweep_next<H: HeightKind, C: Counter<Kind = H>>(siting: &mut SitingBox<'_, H>, counter: &mut C) -> Answer
+fn sweep_next<H: HeightKind, C: Counter<Kind = H>>(
+    siting: &mut SitingBox<'_, H>,
+    counter: &mut C,
+) -> Answer
     ensures carried { λ r. ⌜ SweepCarried (storage H·HeightKind) (H·Height .notHigher) (boxContents (now (siting .entry))) (boxContents (now (siting .exit))) (C·Counter .view (now (counter .entry))) (C·Counter .view (now (counter .exit))) r ⌝ }
     ensures lent { λ _. ⌜ name (now (siting .exit) .parts .records) ≡ name (now (siting .entry) .parts .records) ⌝ }
 {
@@ -93,20 +96,32 @@ fn tell_count<H: HeightKind>(siting: &SitingBox<'_, H>, x: u32, y: u32) -> Answe
     ensures { λ r. ⌜ TellCarried (storage H·HeightKind) (H·Height .notHigher) x y (boxContents (now (siting .entry))) r ⌝ }
 {
     match siting.tell(x as usize, y as usize) {
-        Ok(told) => Answer::Told { count: u64::from(told.count), cells: u64::from(told.cells) },
+        Ok(told) => Answer::Told {
+            count: u64::from(told.count),
+            cells: u64::from(told.cells),
+        },
         Err(denial) => denial_answer(denial),
     }
 }
 
 // Carries out a command on a box with a counter and tells what came of it.
-fn carry_out<H: HeightKind, C: Counter<Kind = H>>(siting: &mut SitingBox<'_, H>, counter: &mut C, command: Command<'_>) -> Answer
+fn carry_out<H: HeightKind, C: Counter<Kind = H>>(
+    siting: &mut SitingBox<'_, H>,
+    counter: &mut C,
+    command: Command<'_>,
+) -> Answer
     requires { ⌜ Decodable command ⌝ }
     ensures carried { λ r. ⌜ Carried (storage H·HeightKind) (H·Height .notHigher) (command .entry) (boxContents (now (siting .entry))) (boxContents (now (siting .exit))) (C·Counter .view (now (counter .entry))) (C·Counter .view (now (counter .exit))) r ⌝ }
     ensures lent { λ _. ⌜ name (now (siting .exit) .parts .records) ≡ name (now (siting .entry) .parts .records) ⌝ }
 {
     match command {
         Command::Choose { .. } => Answer::Denied { number: NO_FORM },
-        Command::Open { width, rows, radius, digits } => open_plan(siting, width, rows, radius, digits),
+        Command::Open {
+            width,
+            rows,
+            radius,
+            digits,
+        } => open_plan(siting, width, rows, radius, digits),
         Command::Sweep => sweep_next(siting, counter),
         Command::Tell { x, y } => tell_count(siting, x, y),
         Command::Nearest { x, y } => tell_nearest(siting, x, y),
@@ -114,7 +129,11 @@ fn carry_out<H: HeightKind, C: Counter<Kind = H>>(siting: &mut SitingBox<'_, H>,
 }
 
 // Serves a line: what it asks of the box and the counter, and the answer.
-pub fn serve<H: HeightKind, C: Counter<Kind = H>>(siting: &mut SitingBox<'_, H>, counter: &mut C, line: &Line) -> Answer
+pub fn serve<H: HeightKind, C: Counter<Kind = H>>(
+    siting: &mut SitingBox<'_, H>,
+    counter: &mut C,
+    line: &Line,
+) -> Answer
     ensures served { λ r. ⌜ Served (storage H·HeightKind) (H·Height .notHigher) (come (now (line .entry))) (boxContents (now (siting .entry))) (boxContents (now (siting .exit))) (C·Counter .view (now (counter .entry))) (C·Counter .view (now (counter .exit))) r ⌝ }
     ensures lent { λ _. ⌜ name (now (siting .exit) .parts .records) ≡ name (now (siting .entry) .parts .records) ⌝ }
 {

@@ -51,7 +51,13 @@ fn wait_for_choice(
 }
 
 // Answers lines from a box over these records and with this counter.
-fn serve_lines<H: HeightKind, C: Counter<Kind = H>>(rt: &LibcRuntime, reader: &mut Reader, line: &mut Line, records: &mut [CellRecord<H>], counter: &mut C) -> io::Result<()> {
+fn serve_lines<H: HeightKind, C: Counter<Kind = H>>(
+    rt: &LibcRuntime,
+    reader: &mut Reader,
+    line: &mut Line,
+    records: &mut [CellRecord<H>],
+    counter: &mut C,
+) -> io::Result<()> {
     let mut siting = SitingBox::new(records);
     for _ in 0..u64::MAX {
         if !reader.read_line(line)? {
@@ -64,8 +70,14 @@ fn serve_lines<H: HeightKind, C: Counter<Kind = H>>(rt: &LibcRuntime, reader: &m
 
 // Serves heights in whole metres, with 1,024 records and 1,024 places.
 fn serve_whole(rt: &LibcRuntime, reader: &mut Reader, line: &mut Line) -> io::Result<()> {
-    let mut records = [CellRecord { height: 0i16, count: 0 }; 1024];
-    let mut entries = [Entry { height: 0i16, number: 0 }; 1027];
+    let mut records = [CellRecord {
+        height: 0i16,
+        count: 0,
+    }; 1024];
+    let mut entries = [Entry {
+        height: 0i16,
+        number: 0,
+    }; 1027];
     let mut counter = ShiftArray::over(&mut entries);
     serve_lines(rt, reader, line, &mut records, &mut counter)
 }
@@ -73,8 +85,14 @@ fn serve_whole(rt: &LibcRuntime, reader: &mut Reader, line: &mut Line) -> io::Re
 // Serves heights in floating-point metres, with 1,024 records and 1,024 places.
 fn serve_float(rt: &LibcRuntime, reader: &mut Reader, line: &mut Line) -> io::Result<()> {
     let sea_level = FloatBits { bits: 0 };
-    let mut records = [CellRecord { height: sea_level, count: 0 }; 1024];
-    let mut entries = [Entry { height: sea_level, number: 0 }; 1027];
+    let mut records = [CellRecord {
+        height: sea_level,
+        count: 0,
+    }; 1024];
+    let mut entries = [Entry {
+        height: sea_level,
+        number: 0,
+    }; 1027];
     let mut counter = ShiftArray::over(&mut entries);
     serve_lines(rt, reader, line, &mut records, &mut counter)
 }
@@ -83,8 +101,16 @@ fn main(rt: LibcRuntime) -> io::Result<()> {
     let mut reader = Reader::new(rt.stdin());
     let mut line = Line::new();
     match wait_for_choice(&rt, &mut reader, &mut line)? {
-        Some((KindLetter::Whole, CounterLetter::ShiftArray)) => serve_whole(&rt, &mut reader, &mut line),
-        Some((KindLetter::Float, CounterLetter::ShiftArray)) => serve_float(&rt, &mut reader, &mut line),
+        Some((KindLetter::Whole, CounterLetter::ShiftArray)) => serve_whole(
+            &rt,
+            &mut reader,
+            &mut line,
+        ),
+        Some((KindLetter::Float, CounterLetter::ShiftArray)) => serve_float(
+            &rt,
+            &mut reader,
+            &mut line,
+        ),
         None => Ok(()),
     }
 }

@@ -1,0 +1,11 @@
+//! Tests of height kinds, counters, box and console.
+#[cfg(test)]
+mod counter_calls;
+#[cfg(test)]
+mod float_sessions;
+#[cfg(test)]
+mod readings;
+#[cfg(test)]
+mod talk;
+#[cfg(test)]
+mod whole_sessions;
