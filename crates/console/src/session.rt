@@ -4,8 +4,10 @@ ghost use Prim.Native.Nat.{ℕ, _≤_};
 ghost use denote.Ref.{name};
 ghost use lib.ListN.{length};
 ghost use Rattle.heights.specs.Meaning.{storage};
+ghost use Rattle.heights.specs.declared.layer.Layer.the-variants.{Console};
 ghost use Rattle.console_text.specs.Hexadecimal.{HexPairs};
 ghost use Rattle.siting_box.specs.Boxes.{boxContents};
+ghost use Rattle.siting_box.specs.Contents.{Counted};
 ghost use Rattle.console.specs.Lines.{come};
 ghost use Rattle.console.specs.Sessions.{denialAnswer, OpenCarried, SweepCarried, TellCarried, NearestCarried, Carried, Served, Decodable, ChosenBy};
 use crate::line::Line;
@@ -17,11 +19,19 @@ use console_text::parse;
 use console_text::unhex;
 use counters::counter::Counter;
 use heights::height::HeightKind;
+use heights::layer::Layer;
 use siting_box::Denial;
 use siting_box::SitingBox;
 
 // The number that denies a line that is none of the console's forms.
 const NO_FORM: u64 = 13;
+
+// The layer that denies such a line.
+pub fn no_form_layer() -> Layer
+    ensures { λ r. ⌜ r ≡ Console ⌝ }
+{
+    Layer::Console
+}
 
 // The answer that tells a denial of the box.
 fn denial_answer<C: Copy>(denial: Denial<C>) -> Answer
@@ -50,6 +60,7 @@ fn open_plan<H: HeightKind>(
     requires pairs { ⌜ HexPairs (now digits) ⌝ }
     requires short { ⌜ length (now digits) ≤ 9000 ⌝ }
     ensures carried { λ r. ⌜ OpenCarried (storage H·HeightKind) width rows radius (now (digits .entry)) (boxContents (now (siting .entry))) (boxContents (now (siting .exit))) r ⌝ }
+    ensures counts { λ _. ⌜ (Counted (H·Height .notHigher) (boxContents (now (siting .entry))) → Counted (H·Height .notHigher) (boxContents (now (siting .exit)))) ⌝ }
     ensures lent { λ _. ⌜ name (now (siting .exit) .parts .records) ≡ name (now (siting .entry) .parts .records) ⌝ }
 {
     let mut stored = [0u8; 4500];
@@ -83,6 +94,8 @@ fn sweep_next<H: HeightKind, C: Counter<Kind = H>>(
     counter: &mut C,
 ) -> Answer
     ensures carried { λ r. ⌜ SweepCarried (storage H·HeightKind) (H·Height .notHigher) (boxContents (now (siting .entry))) (boxContents (now (siting .exit))) (C·Counter .view (now (counter .entry))) (C·Counter .view (now (counter .exit))) r ⌝ }
+    ensures counts { λ _. ⌜ (Counted (H·Height .notHigher) (boxContents (now (siting .entry))) → Counted (H·Height .notHigher) (boxContents (now (siting .exit)))) ⌝ }
+    ensures sound { λ _. ⌜ (C·Counter .sound (now (counter .entry)) → C·Counter .sound (now (counter .exit))) ⌝ }
     ensures lent { λ _. ⌜ name (now (siting .exit) .parts .records) ≡ name (now (siting .entry) .parts .records) ⌝ }
 {
     match siting.sweep(counter) {
@@ -112,6 +125,8 @@ fn carry_out<H: HeightKind, C: Counter<Kind = H>>(
 ) -> Answer
     requires { ⌜ Decodable command ⌝ }
     ensures carried { λ r. ⌜ Carried (storage H·HeightKind) (H·Height .notHigher) (command .entry) (boxContents (now (siting .entry))) (boxContents (now (siting .exit))) (C·Counter .view (now (counter .entry))) (C·Counter .view (now (counter .exit))) r ⌝ }
+    ensures counts { λ _. ⌜ (Counted (H·Height .notHigher) (boxContents (now (siting .entry))) → Counted (H·Height .notHigher) (boxContents (now (siting .exit)))) ⌝ }
+    ensures sound { λ _. ⌜ (C·Counter .sound (now (counter .entry)) → C·Counter .sound (now (counter .exit))) ⌝ }
     ensures lent { λ _. ⌜ name (now (siting .exit) .parts .records) ≡ name (now (siting .entry) .parts .records) ⌝ }
 {
     match command {
@@ -135,6 +150,8 @@ pub fn serve<H: HeightKind, C: Counter<Kind = H>>(
     line: &Line,
 ) -> Answer
     ensures served { λ r. ⌜ Served (storage H·HeightKind) (H·Height .notHigher) (come (now (line .entry))) (boxContents (now (siting .entry))) (boxContents (now (siting .exit))) (C·Counter .view (now (counter .entry))) (C·Counter .view (now (counter .exit))) r ⌝ }
+    ensures counts { λ _. ⌜ (Counted (H·Height .notHigher) (boxContents (now (siting .entry))) → Counted (H·Height .notHigher) (boxContents (now (siting .exit)))) ⌝ }
+    ensures sound { λ _. ⌜ (C·Counter .sound (now (counter .entry)) → C·Counter .sound (now (counter .exit))) ⌝ }
     ensures lent { λ _. ⌜ name (now (siting .exit) .parts .records) ≡ name (now (siting .entry) .parts .records) ⌝ }
 {
     let Some(text) = line.text() else {

@@ -1,4 +1,4 @@
-// The line that an answer is written into.
+//! The line that an answer is written into.
 
 ghost use Prim.Native.Nat.{_≤_};
 

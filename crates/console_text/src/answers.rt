@@ -1,4 +1,4 @@
-// The answers that the console gives.
+//! The answers that the console gives.
 
 use grid::Higher;
 

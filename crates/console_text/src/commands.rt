@@ -1,4 +1,4 @@
-// The commands that a line of the console can write.
+//! The commands that a line of the console can write.
 
 // The letter of a kind of heights.
 #[derive(Clone, Copy)]

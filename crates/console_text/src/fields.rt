@@ -1,4 +1,4 @@
-// The fields of a line: numbers and hexadecimal digits, each after one space.
+//! The fields of a line: numbers and hexadecimal digits, each after one space.
 
 ghost use mathlib.Core.List.{List, _∷_};
 ghost use mathlib.Core.Path.{_≡_};

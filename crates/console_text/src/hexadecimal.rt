@@ -1,4 +1,4 @@
-// Bytes written as pairs of hexadecimal digits, the big digit first.
+//! Bytes written as pairs of hexadecimal digits, the big digit first.
 
 ghost use lib.ListN.{length, drop};
 ghost use mathlib.Core.List.{_++_};

@@ -1,4 +1,4 @@
-// The console's text: lines of bytes to commands, hexadecimal digits to bytes, answers to lines of bytes.
+//! The console's text: lines of bytes to commands, hexadecimal digits to bytes, answers to lines of bytes.
 
 mod answer_line;
 mod answers;

@@ -1,4 +1,4 @@
-// Which command a line writes.
+//! Which command a line writes.
 
 ghost use mathlib.Core.Path.{_≡_};
 ghost use Prim.Native.Nat.{ℕ};

@@ -1,4 +1,4 @@
-// Answers as lines of bytes.
+//! Answers as lines of bytes.
 
 ghost use mathlib.Core.List.{[], _∷_, _++_};
 ghost use mathlib.Core.Path.{_≡_};

@@ -7,14 +7,21 @@ use lib.Dec.{eqb}
 use lib.ListN.{length}
 use Rattle.std.specs.declared.result.Result.{Result}
 use Rattle.std.specs.declared.result.Result.the-variants.{Ok, Err}
+use Rattle.heights.specs.declared.layer.Layer.{Layer}
+use Rattle.heights.specs.declared.layer.Layer.the-variants.{Counter}
 use Rattle.counters.specs.declared.counter.Refusal.{Refusal}
 use Rattle.counters.specs.declared.counter.Refusal.the-variants.{Full, Missing}
 use Rattle.counters.specs.Held.{Same, levelWith, hasLevel, distinct, above, between}
 
--- the number of each refusal; its layer is the counter
+-- the number of each refusal
 abbrev pub refusalNumber : Refusal → ℕ
 refusalNumber Full = 11
 refusalNumber Missing = 12
+
+-- the layer of each refusal
+abbrev pub refusalLayer : Refusal → Layer
+refusalLayer Full = Counter
+refusalLayer Missing = Counter
 
 -- a call of a counter with the height that it is given
 pub data Call (X : Type 0) : Type 0 where

@@ -2,8 +2,9 @@
 ghost use mathlib.Core.Path.{_≡_};
 ghost use Prim.Native.Nat.{ℕ, _≤_};
 ghost use Rattle.counters.specs.Held.{upTo};
-ghost use Rattle.counters.specs.Calls.{View, Did, Put, Take, ask, begun, refusalNumber};
+ghost use Rattle.counters.specs.Calls.{View, Did, Put, Take, ask, begun, refusalNumber, refusalLayer};
 use heights::height::Height;
+use heights::layer::Layer;
 
 // Why a counter refuses a call: it has no place left, or it holds no such height.
 #[derive(Clone, Copy)]
@@ -22,6 +23,16 @@ impl Refusal {
             Refusal::Missing => 12,
         }
     }
+
+    // The layer that asked it.
+    pub fn layer(self) -> Layer
+        ensures { λ r. ⌜ r ≡ refusalLayer self ⌝ }
+    {
+        match self {
+            Refusal::Full => Layer::Counter,
+            Refusal::Missing => Layer::Counter,
+        }
+    }
 }
 
 // What ask tells: how many held heights are not higher, and its steps.
@@ -38,7 +49,7 @@ pub trait Counter {
     // what a counter shows
     ghost view: { Self → View Self·Kind };
 
-    // its memory is in order: so it is when it is made and from begin on, and every call keeps it so
+    // its memory is in order: so it is from begin on, and every call keeps it so; whoever makes a counter says that it is so too
     ghost sound: { Self → Type 0 };
 
     // How many heights it can hold.
@@ -46,7 +57,7 @@ pub trait Counter {
         ensures told { λ r. ⌜ r ≡ view (now (self .entry)) .places ⌝ }
         ensures most { λ r. ⌜ r ≤ 1048576 ⌝ };
 
-    // The sum of the steps told since begin.
+    // The sum of the steps told since begin, or since it was made where there was none.
     fn mileage(&self) -> u64
         ensures { λ r. ⌜ r ≡ view (now (self .entry)) .mileage ⌝ };
 

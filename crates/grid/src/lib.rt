@@ -1,4 +1,8 @@
 //! Grids of heights: places, plans and cell records.
+// The longest side of a grid.
+pub const LONGEST_SIDE: usize = 1024;
+// The largest radius of a window.
+pub const LARGEST_RADIUS: usize = 255;
 
 // A place of a grid: its column from the west and its row from the north, both from 0.
 #[derive(Clone, Copy)]

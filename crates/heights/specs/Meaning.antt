@@ -5,7 +5,7 @@ use Prim.Native.Nat.{ℕ}
 use Rattle.std.specs.declared.result.Result.{Result}
 use Rattle.heights.specs.declared.height.HeightKind.{Ghosts}
 
--- the stored width, what so many bytes read as
+-- the stored width, and what so many bytes read as
 pub record Storage (X C : Type 0) : Type 0 where
   pub wide : ℕ
   pub reads : List ℕ → Result X C

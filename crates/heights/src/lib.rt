@@ -2,4 +2,5 @@
 pub mod finite;
 pub mod float;
 pub mod height;
+pub mod layer;
 pub mod whole;

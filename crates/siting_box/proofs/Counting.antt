@@ -26,7 +26,7 @@ use Rattle.grid.specs.declared.CellRecord.{CellRecord}
 use Rattle.grid.specs.Terrain.{Terrain, Inside, readingIndex, heightsOf}
 use Rattle.grid.specs.Window.{countAt}
 use Rattle.sweep.specs.Sweeping.{Swept}
-use Rattle.siting_box.specs.Contents.{Contents, contents, fitsIn, wellFitted, terrainOf, Counted}
+use Rattle.siting_box.specs.Contents.{Contents, contents, fitsIn, wellFitted, planTerrain, Counted}
 use Rattle.siting_box.specs.Stored.{storedAt, readMore, readFirst}
 use Rattle.siting_box.specs.Fresh.{fresh}
 use Rattle.siting_box.specs.declared.denial.Denial.{Denial}
@@ -64,7 +64,7 @@ opened-counts {X} le p hs rest none long q inside =
     let test : ltb (q .y) (p .swept) ≡ false = grind (arith, tells) in
     ap (mapped (λ (c : CellRecord X). c .count)) (found .1)
     ∙ ap Some zero-count
-    ∙ sym (ap (λ b. Some (cond b (countAt le (terrainOf (Some p) (map fresh hs ++ rest)) (p .radius) q) 0)) test)
+    ∙ sym (ap (λ b. Some (cond b (countAt le (planTerrain (Some p) (map fresh hs ++ rest)) (p .radius) q) 0)) test)
 
 -- after an accepted open no row is swept and every count is 0
 pub counted-opened : {X C : Type 0} (le : X → X → Bool) (k : Storage X C) (width rows radius : ℕ) (bytes : List ℕ) (before after : Contents X) → Opened k width rows radius bytes before after → Counted le after
@@ -75,19 +75,19 @@ counted-opened {X} le k width rows radius bytes before after o =
 
 -- ---- sweep
 
-module _ {X : Type 0} (le : X → X → Bool) (p : Plan) (old after : List (CellRecord X)) (v w : View X) (mileage : ℕ) (fit : fitsIn p (length old) ≡ true) (s : Swept le (terrainOf (Some p) old) (p .radius) (p .swept) (take (p .width * p .rows) old) after v w mileage) where
+module _ {X : Type 0} (le : X → X → Bool) (p : Plan) (old after : List (CellRecord X)) (v w : View X) (mileage : ℕ) (fit : fitsIn p (length old) ≡ true) (s : Swept le (planTerrain (Some p) old) (p .radius) (p .swept) (take (p .width * p .rows) old) after v w mileage) where
   long : length after ≡ p .width * p .rows
   long = s .length-is ∙ length-take (p .width * p .rows) old ∙ omega (arith, fitting p (length old) fit .recorded)
 
   -- the heights stand
-  same-terrain : terrainOf (Some (withRow p)) (after ++ drop (p .width * p .rows) old) ≡ terrainOf (Some p) old
+  same-terrain : planTerrain (Some (withRow p)) (after ++ drop (p .width * p .rows) old) ≡ planTerrain (Some p) old
   same-terrain =
       let of-heights : List X → Terrain X = λ hs. record { width = p .width; rows = p .rows; heights = hs } in
       let front : take (p .width * p .rows) (after ++ drop (p .width * p .rows) old) ≡ after = ap (λ m. take m (after ++ drop (p .width * p .rows) old)) (sym long) ∙ take-append-seam after (drop (p .width * p .rows) old) in
       ap of-heights (ap heightsOf front ∙ s .heights)
 
   -- a record of another row is as before
-  other-row : (q : Place) → Inside (terrainOf (Some p) old) q → (q .y ≡ p .swept → ⊥) → (d : CellRecord X) → getD after (readingIndex (p .width) q) d ≡ getD old (readingIndex (p .width) q) d
+  other-row : (q : Place) → Inside (planTerrain (Some p) old) q → (q .y ≡ p .swept → ⊥) → (d : CellRecord X) → getD after (readingIndex (p .width) q) d ≡ getD old (readingIndex (p .width) q) d
   other-row q inside other d =
       let below : readingIndex (p .width) q < p .width * p .rows = mul-add-lt (q .y) (p .width) (q .x) (p .rows) (inside .1) (inside .0) in
       s .others (readingIndex (p .width) q) d (beside (q .y) (p .swept) (ltb (q .y) (p .swept)) (p .width) (q .x) refl (inside .0) other) ∙ getD-take (p .width * p .rows) old (readingIndex (p .width) q) d below
@@ -102,11 +102,11 @@ module _ {X : Type 0} (le : X → X → Bool) (p : Plan) (old after : List (Cell
           inr (omega (arith, mul-le-mul-right width gt))
 
   -- the count of a cell of another row after the sweep
-  count-beside : (q : Place) → Inside (terrainOf (Some p) old) q → Counted le (contents (Some p) old) → (c : CellRecord X) → ((d : CellRecord X) → getD after (readingIndex (p .width) q) d ≡ c) → (q .y ≡ p .swept → ⊥)
-      → c .count ≡ cond (ltb (q .y) (p .swept + 1)) (countAt le (terrainOf (Some p) old) (p .radius) q) 0
+  count-beside : (q : Place) → Inside (planTerrain (Some p) old) q → Counted le (contents (Some p) old) → (c : CellRecord X) → ((d : CellRecord X) → getD after (readingIndex (p .width) q) d ≡ c) → (q .y ≡ p .swept → ⊥)
+      → c .count ≡ cond (ltb (q .y) (p .swept + 1)) (countAt le (planTerrain (Some p) old) (p .radius) q) 0
   count-beside q inside counted c c-is other =
       let i = readingIndex (p .width) q in
-      let N = countAt le (terrainOf (Some p) old) (p .radius) q in
+      let N = countAt le (planTerrain (Some p) old) (p .radius) q in
       let below : i < p .width * p .rows = mul-add-lt (q .y) (p .width) (q .x) (p .rows) (inside .1) (inside .0) in
       let found = there old i (omega (arith, fitting p (length old) fit .recorded)) in
       let same : c ≡ found .0 = sym (c-is c) ∙ other-row q inside other c ∙ found .2 c in
@@ -125,10 +125,10 @@ module _ {X : Type 0} (le : X → X → Bool) (p : Plan) (old after : List (Cell
           e ∙ sym (let t : ltb y (m + 1) ≡ false = grind (arith, tells) in t)
 
   -- the count of a cell of the swept row after the sweep
-  count-in-row : (q : Place) → Inside (terrainOf (Some p) old) q → (c : CellRecord X) → ((d : CellRecord X) → getD after (readingIndex (p .width) q) d ≡ c) → q .y ≡ p .swept
-      → c .count ≡ cond (ltb (q .y) (p .swept + 1)) (countAt le (terrainOf (Some p) old) (p .radius) q) 0
+  count-in-row : (q : Place) → Inside (planTerrain (Some p) old) q → (c : CellRecord X) → ((d : CellRecord X) → getD after (readingIndex (p .width) q) d ≡ c) → q .y ≡ p .swept
+      → c .count ≡ cond (ltb (q .y) (p .swept + 1)) (countAt le (planTerrain (Some p) old) (p .radius) q) 0
   count-in-row q inside c c-is here =
-      let N : Place → ℕ = countAt le (terrainOf (Some p) old) (p .radius) in
+      let N : Place → ℕ = countAt le (planTerrain (Some p) old) (p .radius) in
       let place : ℕ → Place = λ y. record { x = q .x; y = y } in
       let index : readingIndex (p .width) q ≡ p .swept * p .width + q .x = ap (λ y. y * p .width + q .x) here in
       let counted : getD after (p .swept * p .width + q .x) c .count ≡ N (place (p .swept)) = s .counts (q .x) c (inside .0) in
@@ -136,8 +136,8 @@ module _ {X : Type 0} (le : X → X → Bool) (p : Plan) (old after : List (Cell
       let test : ltb (q .y) (p .swept + 1) ≡ true = grind (arith, tells) in
       sym (ap (λ (r : CellRecord X). r .count) at) ∙ counted ∙ ap (λ y. N (place y)) (sym here) ∙ sym (ap (λ b. cond b (N q) 0) test)
 
-  count-after : (q : Place) → Inside (terrainOf (Some p) old) q → Counted le (contents (Some p) old) → (c : CellRecord X) → ((d : CellRecord X) → getD after (readingIndex (p .width) q) d ≡ c) → (b : Bool) → eqb (q .y) (p .swept) ≡ b
-      → c .count ≡ cond (ltb (q .y) (p .swept + 1)) (countAt le (terrainOf (Some p) old) (p .radius) q) 0
+  count-after : (q : Place) → Inside (planTerrain (Some p) old) q → Counted le (contents (Some p) old) → (c : CellRecord X) → ((d : CellRecord X) → getD after (readingIndex (p .width) q) d ≡ c) → (b : Bool) → eqb (q .y) (p .swept) ≡ b
+      → c .count ≡ cond (ltb (q .y) (p .swept + 1)) (countAt le (planTerrain (Some p) old) (p .radius) q) 0
   count-after q inside counted c c-is true e = count-in-row q inside c c-is (let h : q .y ≡ p .swept = grind (arith, tells) in h)
   count-after q inside counted c c-is false e = count-beside q inside counted c c-is (λ same. let z : eqb (q .y) (p .swept) ≡ true = grind (arith, tells) in let y : _≡_ {A = ℕ} 0 1 = cc in omega arith)
 

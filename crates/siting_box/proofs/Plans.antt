@@ -19,7 +19,7 @@ use Rattle.grid.specs.Terrain.{readingIndex}
 use Rattle.grid.specs.Window.{countAt}
 use Rattle.grid.proofs.Sizes.{window-size-is}
 use Rattle.siting_box.specs.declared.told.Told.{Told}
-use Rattle.siting_box.specs.Contents.{contents, fitsIn, terrainOf, isSwept, countOn, Counted}
+use Rattle.siting_box.specs.Contents.{contents, fitsIn, planTerrain, isSwept, countOn, Counted}
 use Rattle.siting_box.specs.Calls.{TellsCount}
 
 -- the facts of a plan that fits
@@ -74,8 +74,8 @@ tells-plan {X} le p records x y count cells fit column row swept on size =
     let test : ltb y (p .swept) ≡ true = grind (arith, tells) in
     record {
       on-record = recorded;
-      defined = λ counted. same-some count _ (sym recorded ∙ counted place (column, row) ∙ ap (λ b. Some (cond b (countAt le (terrainOf (Some p) records) (p .radius) place) 0)) test);
-      cells = size ∙ sym (window-size-is (terrainOf (Some p) records) (p .radius) place);
+      defined = λ counted. same-some count _ (sym recorded ∙ counted place (column, row) ∙ ap (λ b. Some (cond b (countAt le (planTerrain (Some p) records) (p .radius) place) 0)) test);
+      cells = size ∙ sym (window-size-is (planTerrain (Some p) records) (p .radius) place);
     }
 
 -- the same of the plan that a box holds

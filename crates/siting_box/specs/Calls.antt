@@ -23,7 +23,7 @@ use Rattle.sweep.specs.Sweeping.{placesNeeded, Swept}
 use Rattle.siting_box.specs.declared.denial.Denial.{Denial}
 use Rattle.siting_box.specs.declared.denial.Denial.the-variants.{NoPlan, Sizes, TooFewRecords, Outside, StoredLength, Unread, NoRowLeft, TooFewPlaces, NotSwept}
 use Rattle.siting_box.specs.declared.told.Told.{Told}
-use Rattle.siting_box.specs.Contents.{Contents, lawfulSizes, terrainOf, radiusOf, isSwept, countOn, Counted}
+use Rattle.siting_box.specs.Contents.{Contents, lawfulSizes, planTerrain, radiusOf, isSwept, countOn, Counted}
 use Rattle.siting_box.specs.Stored.{readFirst}
 use Rattle.siting_box.specs.Fresh.{fresh}
 
@@ -94,7 +94,7 @@ pub record SweptPlan {X : Type 0} (le : X → X → Bool) (before after : Conten
   pub plan-after : after .plan ≡ Some (withRow plan)
   pub cells : List (CellRecord X)
   pub records-after : after .records ≡ cells ++ drop (plan .width * plan .rows) (before .records)
-  pub row : Swept le (terrainOf (Some plan) (before .records)) (plan .radius) (plan .swept) (take (plan .width * plan .rows) (before .records)) cells old new mileage
+  pub row : Swept le (planTerrain (Some plan) (before .records)) (plan .radius) (plan .swept) (take (plan .width * plan .rows) (before .records)) cells old new mileage
 
 -- what sweep leaves: a denied sweep changes nothing
 abbrev pub SweepLeaves : {X C : Type 0} → (X → X → Bool) → (before after : Contents X) → (old new : View X) → Result ℕ (Denial C) → Type 0
@@ -108,8 +108,8 @@ tellQuestions b x y = (1, holdsPlan b) ∷ ((4, hasCell (b .plan) x y) ∷ ((9, 
 -- what tell answers: the count on record, which is the defined one in a box whose counts are, and the cells of the window
 pub record TellsCount {X : Type 0} (le : X → X → Bool) (b : Contents X) (p : Place) (told : Told) : Type 0 where
   pub on-record : countOn b p ≡ Some (told .count)
-  pub defined : Counted le b → told .count ≡ countAt le (terrainOf (b .plan) (b .records)) (radiusOf (b .plan)) p
-  pub cells : told .cells ≡ windowSize (terrainOf (b .plan) (b .records)) (radiusOf (b .plan)) p
+  pub defined : Counted le b → told .count ≡ countAt le (planTerrain (b .plan) (b .records)) (radiusOf (b .plan)) p
+  pub cells : told .cells ≡ windowSize (planTerrain (b .plan) (b .records)) (radiusOf (b .plan)) p
 
 -- what an accepted tell answers
 abbrev pub TellAnswer : {X C : Type 0} → (X → X → Bool) → Contents X → (x y : ℕ) → Result Told (Denial C) → Type 0
@@ -122,5 +122,5 @@ nearestQuestions b x y = (1, holdsPlan b) ∷ ((4, hasCell (b .plan) x y) ∷ []
 
 -- what an accepted nearest answers
 abbrev pub NearestAnswer : {X C : Type 0} → (X → X → Bool) → Contents X → (x y : ℕ) → Result (Option Higher) (Denial C) → Type 0
-NearestAnswer le b x y (Ok found) = Nearest le (terrainOf (b .plan) (b .records)) (record { x = x; y = y }) found
+NearestAnswer le b x y (Ok found) = Nearest le (planTerrain (b .plan) (b .records)) (record { x = x; y = y }) found
 NearestAnswer le b x y (Err denial) = Unit {0}

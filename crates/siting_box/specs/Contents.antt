@@ -38,9 +38,9 @@ wellFitted None fitted = true
 wellFitted (Some p) fitted = fitsIn p fitted
 
 -- the grid of a plan; without one a grid that has no cell
-abbrev pub terrainOf : {X : Type 0} → Option Plan → List (CellRecord X) → Terrain X
-terrainOf None records = record { width = 0; rows = 0; heights = [] }
-terrainOf (Some p) records = record { width = p .width; rows = p .rows; heights = heightsOf (take (p .width * p .rows) records) }
+abbrev pub planTerrain : {X : Type 0} → Option Plan → List (CellRecord X) → Terrain X
+planTerrain None records = record { width = 0; rows = 0; heights = [] }
+planTerrain (Some p) records = record { width = p .width; rows = p .rows; heights = heightsOf (take (p .width * p .rows) records) }
 
 -- the radius of a plan's windows
 abbrev pub radiusOf : Option Plan → ℕ
@@ -54,8 +54,8 @@ isSwept (Some p) y = ltb y (p .swept)
 
 -- the count on record of a cell
 abbrev pub countOn : {X : Type 0} → Contents X → Place → Option ℕ
-countOn b q = mapped (λ c. c .count) (nth (b .records) (readingIndex (terrainOf (b .plan) (b .records) .width) q))
+countOn b q = mapped (λ c. c .count) (nth (b .records) (readingIndex (planTerrain (b .plan) (b .records) .width) q))
 
 -- every count in a swept row is the defined one, and every other count of the plan is 0
 abbrev pub Counted : {X : Type 0} → (X → X → Bool) → Contents X → Type 0
-Counted le b = (q : Place) → Inside (terrainOf (b .plan) (b .records)) q → countOn b q ≡ Some (cond (isSwept (b .plan) (q .y)) (countAt le (terrainOf (b .plan) (b .records)) (radiusOf (b .plan)) q) 0)
+Counted le b = (q : Place) → Inside (planTerrain (b .plan) (b .records)) q → countOn b q ≡ Some (cond (isSwept (b .plan) (q .y)) (countAt le (planTerrain (b .plan) (b .records)) (radiusOf (b .plan)) q) 0)

@@ -8,8 +8,8 @@ use Rattle.std.specs.declared.result.Result.{Result}
 use Rattle.std.specs.declared.result.Result.the-variants.{Ok, Err}
 use Rattle.siting_box.specs.declared.denial.Denial.{Denial}
 use Rattle.siting_box.specs.declared.denial.Denial.the-variants.{NoPlan, Sizes, TooFewRecords, Outside, StoredLength, Unread, NoRowLeft, TooFewPlaces, NotSwept}
-use Rattle.siting_box.specs.declared.denial.Layer.{Layer}
-use Rattle.siting_box.specs.declared.denial.Layer.the-variants.{Reader, Kind, Counter, Plan}
+use Rattle.heights.specs.declared.layer.Layer.{Layer}
+use Rattle.heights.specs.declared.layer.Layer.the-variants.{Reader, Kind, Counter, Box}
 
 -- the number of the question that was answered no
 abbrev pub number : {C : Type 0} → Denial C → ℕ
@@ -25,15 +25,15 @@ number NotSwept = 9
 
 -- the layer that asked it
 abbrev pub layer : {C : Type 0} → Denial C → Layer
-layer NoPlan = Plan
-layer Sizes = Plan
-layer TooFewRecords = Plan
-layer Outside = Plan
+layer NoPlan = Box
+layer Sizes = Box
+layer TooFewRecords = Box
+layer Outside = Box
 layer StoredLength = Reader
 layer (Unread cause x y) = Kind
-layer NoRowLeft = Plan
+layer NoRowLeft = Box
 layer TooFewPlaces = Counter
-layer NotSwept = Plan
+layer NotSwept = Box
 
 -- the number by which a call was denied, if it was
 abbrev pub deniedBy : {A C : Type 0} → Result A (Denial C) → Option ℕ

@@ -1,6 +1,7 @@
 //! Denials of the box.
 ghost use mathlib.Core.Path.{_≡_};
 ghost use Rattle.siting_box.specs.Denials.{number, layer};
+use heights::layer::Layer;
 
 // Why a call was denied.
 #[derive(Clone, Copy)]
@@ -14,16 +15,6 @@ pub enum Denial<C> {
     NoRowLeft,
     TooFewPlaces,
     NotSwept,
-}
-
-// Which layer denied a call.
-#[derive(Clone, Copy)]
-pub enum Layer {
-    Reader,
-    Kind,
-    Counter,
-    Console,
-    Plan,
 }
 
 impl<C: Copy> Denial<C> {
@@ -52,7 +43,7 @@ impl<C: Copy> Denial<C> {
             Denial::StoredLength => Layer::Reader,
             Denial::Unread { .. } => Layer::Kind,
             Denial::TooFewPlaces => Layer::Counter,
-            _ => Layer::Plan,
+            _ => Layer::Box,
         }
     }
 }

@@ -9,5 +9,4 @@ mod window;
 
 pub use boxes::SitingBox;
 pub use denial::Denial;
-pub use denial::Layer;
 pub use told::Told;

@@ -4,6 +4,7 @@ ghost use mathlib.Core.Bool.{true};
 ghost use Prim.Native.Nat.{ℕ};
 ghost use denote.Ref.{name};
 ghost use lib.ListN.{length};
+ghost use Rattle.std.specs.Results.{Cases};
 ghost use Rattle.heights.specs.Meaning.{storage};
 ghost use Rattle.siting_box.specs.InParts.{partsContents};
 ghost use Rattle.siting_box.specs.Denials.{deniedBy, firstNo};
@@ -19,15 +20,12 @@ use crate::window::extent;
 use counters::counter::Counter;
 use grid::CellRecord;
 use grid::Higher;
+use grid::LARGEST_RADIUS;
+use grid::LONGEST_SIDE;
 use grid::Place;
 use grid::Plan;
 use heights::height::HeightKind;
 use sweep::row::sweep_row;
-
-// The longest side of a grid.
-const LONGEST_SIDE: usize = 1024;
-// The largest radius of a window.
-const LARGEST_RADIUS: usize = 255;
 
 // Whether a plan may have these sizes.
 pub(crate) fn are_lawful(width: usize, rows: usize, radius: usize) -> bool
@@ -101,7 +99,7 @@ impl<'a, H: HeightKind> Parts<'a, H> {
         ensures fitted { λ _. ⌜ wellFitted (now (self .exit) .plan) (length (now (now (self .exit) .records))) ≡ true ⌝ }
         ensures denial { λ r. ⌜ deniedBy r ≡ firstNo (sweepQuestions (partsContents (now (self .entry))) (C·Counter .view (now (counter .entry)) .places)) ⌝ }
         ensures leaves { λ r. ⌜ SweepLeaves (H·Height .notHigher) (partsContents (now (self .entry))) (partsContents (now (self .exit))) (C·Counter .view (now (counter .entry))) (C·Counter .view (now (counter .exit))) r ⌝ }
-        ensures sound { λ _. ⌜ (C·Counter .sound (now (counter .entry)) → C·Counter .sound (now (counter .exit))) ⌝ }
+        ensures counter { λ r. ⌜ Cases r (λ _. C·Counter .sound (now (counter .exit))) (λ _. now (counter .exit) ≡ now (counter .entry)) ⌝ }
         ensures lent { λ _. ⌜ name (now (self .exit) .records) ≡ name (now (self .entry) .records) ⌝ }
     {
         let Some(plan) = self.plan else {

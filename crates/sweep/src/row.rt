@@ -9,12 +9,9 @@ use crate::band::Band;
 use crate::turn::take_turn;
 use counters::counter::Counter;
 use grid::CellRecord;
+use grid::LARGEST_RADIUS;
+use grid::LONGEST_SIDE;
 use heights::height::Height;
-
-// The longest side of a grid.
-const LONGEST_SIDE: usize = 1024;
-// The largest radius of a window.
-const LARGEST_RADIUS: usize = 255;
 
 // Whether a counter of so many places can sweep a row of a grid of these sizes whose records are so many.
 fn can_sweep(

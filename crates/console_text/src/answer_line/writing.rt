@@ -1,4 +1,4 @@
-// Writing to an answer line, and reading it.
+//! Writing to an answer line, and reading it.
 
 ghost use lib.ListN.{length};
 ghost use mathlib.Core.List.{[], _∷_, _++_};

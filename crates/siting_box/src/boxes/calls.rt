@@ -3,6 +3,7 @@ ghost use mathlib.Core.Path.{_≡_};
 ghost use Prim.Native.Nat.{ℕ};
 ghost use denote.Ref.{name};
 ghost use Rattle.std.specs.declared.option.Option.the-variants.{None};
+ghost use Rattle.std.specs.Results.{Cases};
 ghost use Rattle.heights.specs.Meaning.{storage};
 ghost use Rattle.siting_box.specs.Boxes.{boxContents};
 ghost use Rattle.siting_box.specs.Contents.{contents, Counted};
@@ -53,7 +54,7 @@ impl<'a, H: HeightKind> SitingBox<'a, H> {
         ensures denial { λ r. ⌜ deniedBy r ≡ firstNo (sweepQuestions (boxContents (now (self .entry))) (C·Counter .view (now (counter .entry)) .places)) ⌝ }
         ensures leaves { λ r. ⌜ SweepLeaves (H·Height .notHigher) (boxContents (now (self .entry))) (boxContents (now (self .exit))) (C·Counter .view (now (counter .entry))) (C·Counter .view (now (counter .exit))) r ⌝ }
         ensures counts { λ _. ⌜ (Counted (H·Height .notHigher) (boxContents (now (self .entry))) → Counted (H·Height .notHigher) (boxContents (now (self .exit)))) ⌝ }
-        ensures sound { λ _. ⌜ (C·Counter .sound (now (counter .entry)) → C·Counter .sound (now (counter .exit))) ⌝ }
+        ensures counter { λ r. ⌜ Cases r (λ _. C·Counter .sound (now (counter .exit))) (λ _. now (counter .exit) ≡ now (counter .entry)) ⌝ }
         ensures lent { λ _. ⌜ name (now (self .exit) .parts .records) ≡ name (now (self .entry) .parts .records) ⌝ }
     {
         self.parts.sweep(counter)

@@ -13,6 +13,7 @@ returns-in-Ok g c =
     let same : take (c .in-Some .count - 0) (c .unhex .last .out) ≡ bytesOf (c .args .digits .now) = decoded (c .in-Some .count) (c .args .digits .now) (c .unhex .last .out) _ (c .in-Some .ensures tt .answer .2) (c .in-Some .ensures tt .bytes) in
     record {
       carried = carries-open (storage (g .H·HeightKind)) (c .args .width) (c .args .rows) (c .args .radius) _ (c .args .digits .now) (boxContents (c .args .siting .now)) (boxContents (c .open .last .self)) (Ok tt) _ same (c .in-Ok .ensures tt .denial) (c .in-Ok .ensures tt .leaves) refl;
+      counts = c .in-Ok .ensures tt .counts;
       lent = c .in-Ok .ensures tt .lent;
     }
 
@@ -21,5 +22,6 @@ returns-in-Err g c =
     let same : take (c .in-Some .count - 0) (c .unhex .last .out) ≡ bytesOf (c .args .digits .now) = decoded (c .in-Some .count) (c .args .digits .now) (c .unhex .last .out) _ (c .in-Some .ensures tt .answer .2) (c .in-Some .ensures tt .bytes) in
     record {
       carried = carries-open (storage (g .H·HeightKind)) (c .args .width) (c .args .rows) (c .args .radius) _ (c .args .digits .now) (boxContents (c .args .siting .now)) (boxContents (c .open .last .self)) (Err (c .in-Err .denial)) _ same (c .in-Err .ensures tt .denial) (c .in-Err .ensures tt .leaves) (c .denial-answer .ensures);
+      counts = c .in-Err .ensures tt .counts;
       lent = c .in-Err .ensures tt .lent;
     }

@@ -7,6 +7,6 @@ returns g c = record {
   denial = c .sweep .ensures .denial;
   leaves = c .sweep .ensures .leaves;
   counts = sweep-keeps (g .H·Height .notHigher) (partsContents (c .args .self .now .parts)) (partsContents (c .sweep .last .self)) (g .C·Counter .view (c .args .counter .now)) (g .C·Counter .view (c .sweep .last .counter)) (c .sweep .result) (c .sweep .ensures .leaves) (c .args .self .now .fitted);
-  sound = c .sweep .ensures .sound;
+  counter = c .sweep .ensures .counter;
   lent = c .sweep .ensures .lent;
 }

@@ -21,6 +21,6 @@ returns-in-rest-sweep-row g c =
       fitted = subst (λ l. wellFitted (c .args .self .now .plan) (length l) ≡ true) (sym back) (c .pre);
       denial = denied-places (c .args .self .now .plan) (c .in-Some .plan) old (g .C·Counter .view (c .args .counter .now) .places) (length old) _ (c .in-Some .is) fit (omega arith) whole (c .in-rest-sweep-row .ensures tt .fits);
       leaves = (ap (contents (c .args .self .now .plan)) back, ap (g .C·Counter .view) (leaves .1));
-      sound = λ h. subst (g .C·Counter .sound) (sym (leaves .1)) h;
+      counter = leaves .1;
       lent = refl;
     }
