@@ -24,8 +24,9 @@ def single(b):
 
 
 class Box:
-    def __init__(self, kind):
+    def __init__(self, kind, counter):
         self.width, self.read = {'W': (2, whole), 'F': (4, single)}[kind]
+        self.steps = {'A': self.shifts, 'L': self.moves}[counter]
         self.plan = None
 
     def open(self, w, h, r, data):
@@ -59,12 +60,11 @@ class Box:
         if min(w, 2 * r + 1) * min(h, 2 * r + 1) > PLACES:
             return 'no 8'
         self.swept += 1
-        return 'ok %d' % self.shifts(y)
+        return 'ok %d' % self.steps(y)
 
-    def shifts(self, y):
-        """the steps of a shift array: a height that comes new or goes for good moves each distinct one above it"""
+    def calls(self, y):
+        """the counter's calls for row y: takes, puts and the ask of each column"""
         w, h, r = self.plan
-        held, steps = {}, 0
 
         def column(x):
             rows = list(range(max(0, y - r), min(h, y + r + 1)))
@@ -73,18 +73,43 @@ class Box:
         taken = put = 0
         for x in range(w):
             while taken < x - r:
-                for v in column(taken):
-                    held[v] -= 1
-                    if held[v] == 0:
-                        steps += sum(1 for u in held if u > v)
-                        del held[v]
+                yield from (('take', v) for v in column(taken))
                 taken += 1
             while put <= min(w - 1, x + r):
-                for v in column(put):
-                    if v not in held:
-                        steps += sum(1 for u in held if u > v)
-                    held[v] = held.get(v, 0) + 1
+                yield from (('put', v) for v in column(put))
                 put += 1
+            yield 'ask', self.at(x, y)
+
+    def shifts(self, y):
+        """the steps of a shift array: a height that comes new or goes for good moves each distinct one above it"""
+        held, steps = {}, 0
+        for name, v in self.calls(y):
+            if name == 'put':
+                if v not in held:
+                    steps += sum(1 for u in held if u > v)
+                held[v] = held.get(v, 0) + 1
+            elif name == 'take':
+                held[v] -= 1
+                if held[v] == 0:
+                    steps += sum(1 for u in held if u > v)
+                    del held[v]
+        return steps
+
+    def moves(self, y):
+        """the steps of a finger list: the distinct held heights above the lower end of a move and not above the higher"""
+        first = self.at(0, max(0, y - self.plan[2]))
+        finger = {'put': first, 'take': first, 'ask': self.at(0, y)}
+        held, steps = {}, 0
+        for name, v in self.calls(y):
+            low, high = sorted((finger[name], v))
+            steps += sum(1 for u in held if low < u <= high)
+            finger[name] = v
+            if name == 'put':
+                held[v] = held.get(v, 0) + 1
+            elif name == 'take':
+                held[v] -= 1
+                if held[v] == 0:
+                    del held[v]
         return steps
 
     def cell(self, x, y):
@@ -94,13 +119,28 @@ class Box:
             return 'no 4'
         return None
 
-    def tell(self, x, y):
+    def alter(self, x, y, data):
         if self.cell(x, y):
             return self.cell(x, y)
-        if y >= self.swept:
-            return 'no 9'
-        cells = self.window(x, y)
-        return '%d %d' % (sum(1 for c in cells if self.at(*c) <= self.at(x, y)), len(cells))
+        if len(data) != self.width:
+            return 'no 5'
+        height = self.read(data)
+        if height is None:
+            return 'no 6 %d %d' % (x, y)
+        self.heights[y * self.plan[0] + x] = height
+        return 'ok'
+
+    def count(self, x, y):
+        return sum(1 for c in self.window(x, y) if self.at(*c) <= self.at(x, y))
+
+    def counted(self, x, y):
+        return self.cell(x, y) or ('no 9' if y >= self.swept else None)
+
+    def tell(self, x, y):
+        return self.counted(x, y) or '%d %d' % (self.count(x, y), len(self.window(x, y)))
+
+    def share(self, x, y):
+        return self.counted(x, y) or '%d' % (1000 * self.count(x, y) // (2 * self.plan[2] + 1) ** 2)
 
     def nearest(self, x, y):
         if self.cell(x, y):
@@ -120,9 +160,12 @@ def answer(box, line):
     m = re.fullmatch(r'O (%s) (%s) (%s) ((?:[0-9A-F]{2})+)' % (NUMBER, NUMBER, NUMBER), text)
     if m:
         return box.open(int(m[1]), int(m[2]), int(m[3]), bytes.fromhex(m[4]))
-    m = re.fullmatch(r'([TN]) (%s) (%s)' % (NUMBER, NUMBER), text)
+    m = re.fullmatch(r'A (%s) (%s) ((?:[0-9A-F]{2})+)' % (NUMBER, NUMBER), text)
     if m:
-        return {'T': box.tell, 'N': box.nearest}[m[1]](int(m[2]), int(m[3]))
+        return box.alter(int(m[1]), int(m[2]), bytes.fromhex(m[3]))
+    m = re.fullmatch(r'([THN]) (%s) (%s)' % (NUMBER, NUMBER), text)
+    if m:
+        return {'T': box.tell, 'H': box.share, 'N': box.nearest}[m[1]](int(m[2]), int(m[3]))
     if text == 'S':
         return box.sweep()
     return 'no 13'
@@ -132,8 +175,8 @@ def main():
     box = None
     for line in sys.stdin.buffer.read().split(b'\n')[:-1]:
         if box is None:
-            if line in (b'K W A', b'K F A'):
-                box = Box(chr(line[2]))
+            if re.fullmatch(rb'K [WF] [LA]', line):
+                box = Box(chr(line[2]), chr(line[4]))
                 print('ok')
             else:
                 print('no 13')

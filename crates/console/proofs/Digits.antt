@@ -12,14 +12,18 @@ use Rattle.console_text.specs.Words.{afterSpaces}
 use Rattle.console_text.specs.Commands.{Spells}
 use Rattle.console.specs.Sessions.{Decodable}
 
--- the last of four words is shorter than all of them
+-- the last of the words is shorter than all of them
+third-shorter : (a b c : List ℕ) → length c ≤ length (afterSpaces (a ∷ b ∷ c ∷ []))
+third-shorter a b c =
+    let one = length-append a (afterSpaces (b ∷ c ∷ [])) in
+    let two = length-append b (afterSpaces (c ∷ [])) in
+    let three = length-append c [] in
+    omega arith
+
 last-shorter : (a b c d : List ℕ) → length d ≤ length (afterSpaces (a ∷ b ∷ c ∷ d ∷ []))
 last-shorter a b c d =
     let one = length-append a (afterSpaces (b ∷ c ∷ d ∷ [])) in
-    let two = length-append b (afterSpaces (c ∷ d ∷ [])) in
-    let three = length-append c (afterSpaces (d ∷ [])) in
-    let four = length-append d [] in
-    omega arith
+    omega (arith, third-shorter b c d)
 
 -- a command of a line that is not too long can be decoded
 pub decodable : (x : Command) (line : List ℕ) → Spells x line → length line ≤ 9000 → Decodable x
@@ -30,8 +34,15 @@ decodable (command.Open width rows radius digits) line s short =
     let text = ap length (fields .text-is) in
     let digit = last-shorter (fields .a) (fields .b) (fields .c) (digits .now) in
     (fields .pairs, omega arith)
+decodable (command.Alter x y digits) line s short =
+    let fields = s .2 in
+    let long = ap length (s .1) in
+    let text = ap length (fields .text-is) in
+    let digit = third-shorter (fields .a) (fields .b) (digits .now) in
+    (fields .pairs, omega arith)
 decodable command.Sweep line s short = tt
 decodable (command.Tell x y) line s short = tt
+decodable (command.Share x y) line s short = tt
 decodable (command.Nearest x y) line s short = tt
 
 -- what has come of a line is not too long

@@ -17,7 +17,7 @@ use Rattle.siting_box.specs.declared.denial.Denial.the-variants.{NoPlan, Sizes,
 use Rattle.siting_box.specs.Contents.{Contents}
 use Rattle.siting_box.specs.Denials.{number, deniedBy, firstNo}
 use Rattle.siting_box.specs.declared.told.Told.{Told}
-use Rattle.siting_box.specs.Calls.{openQuestions, OpenLeaves, sweepQuestions, SweepLeaves, tellQuestions, TellAnswer, nearestQuestions, NearestAnswer}
+use Rattle.siting_box.specs.Calls.{openQuestions, OpenLeaves, alterQuestions, AlterLeaves, sweepQuestions, SweepLeaves, tellQuestions, TellAnswer, shareQuestions, ShareAnswer, nearestQuestions, NearestAnswer}
 use Rattle.console_text.specs.declared.answers.Answer.{Answer}
 use Rattle.console_text.specs.declared.answers.Answer.the-variants as answer
 use Rattle.console_text.specs.declared.commands.KindLetter.{KindLetter}
@@ -39,10 +39,10 @@ denialAnswer NoRowLeft = answer.Denied 7
 denialAnswer TooFewPlaces = answer.Denied 8
 denialAnswer NotSwept = answer.Denied 9
 
--- the answer to open
-abbrev pub openAnswer : {C : Type 0} → Result Unit (Denial C) → Answer
-openAnswer (Ok done) = answer.Done
-openAnswer (Err denial) = denialAnswer denial
+-- the answer to open and to alter
+abbrev pub doneAnswer : {C : Type 0} → Result Unit (Denial C) → Answer
+doneAnswer (Ok done) = answer.Done
+doneAnswer (Err denial) = denialAnswer denial
 
 -- the answer to sweep: the steps
 abbrev pub sweepAnswer : {C : Type 0} → Result ℕ (Denial C) → Answer
@@ -54,6 +54,11 @@ abbrev pub tellAnswer : {C : Type 0} → Result Told (Denial C) → Answer
 tellAnswer (Ok told) = answer.Told (told .count) (told .cells)
 tellAnswer (Err denial) = denialAnswer denial
 
+-- the answer to share
+abbrev pub shareAnswer : {C : Type 0} → Result ℕ (Denial C) → Answer
+shareAnswer (Ok share) = answer.Share share
+shareAnswer (Err denial) = denialAnswer denial
+
 -- the answer to nearest
 abbrev pub nearestAnswer : {C : Type 0} → Result (Option Higher) (Denial C) → Answer
 nearestAnswer (Ok found) = answer.Nearest found
@@ -64,7 +69,14 @@ pub record OpenCarried {X C : Type 0} (k : Storage X C) (width rows radius : ℕ
   pub result : Result Unit (Denial C)
   pub denial : deniedBy result ≡ firstNo (openQuestions k before width rows radius (bytesOf digits))
   pub leaves : OpenLeaves k width rows radius (bytesOf digits) before after result
-  pub answer-is : answer ≡ openAnswer result
+  pub answer-is : answer ≡ doneAnswer result
+
+-- the cell was altered, or the box denied it, and that is what was answered
+pub record AlterCarried {X C : Type 0} (k : Storage X C) (le : X → X → Bool) (x y : ℕ) (digits : List ℕ) (before after : Contents X) (answer : Answer) : Type 0 where
+  pub result : Result Unit (Denial C)
+  pub denial : deniedBy result ≡ firstNo (alterQuestions k before x y (bytesOf digits))
+  pub leaves : AlterLeaves k le x y (bytesOf digits) before after result
+  pub answer-is : answer ≡ doneAnswer result
 
 -- the next row was swept, or the box denied it, and that is what was answered
 pub record SweepCarried {X C : Type 0} (k : Storage X C) (le : X → X → Bool) (before after : Contents X) (old new : View X) (answer : Answer) : Type 0 where
@@ -79,6 +91,13 @@ pub record TellCarried {X C : Type 0} (k : Storage X C) (le : X → X → Bool) 
   pub denial : deniedBy result ≡ firstNo (tellQuestions b x y)
   pub told : TellAnswer le b x y result
   pub answer-is : answer ≡ tellAnswer result
+
+-- the box told a share, or denied it, and that is what was answered
+pub record ShareCarried {X C : Type 0} (k : Storage X C) (le : X → X → Bool) (x y : ℕ) (b : Contents X) (answer : Answer) : Type 0 where
+  pub result : Result ℕ (Denial C)
+  pub denial : deniedBy result ≡ firstNo (shareQuestions b x y)
+  pub told : ShareAnswer le b x y result
+  pub answer-is : answer ≡ shareAnswer result
 
 -- the box found what is nearest, or denied it, and that is what was answered
 pub record NearestCarried {X C : Type 0} (k : Storage X C) (le : X → X → Bool) (x y : ℕ) (b : Contents X) (answer : Answer) : Type 0 where
@@ -95,8 +114,10 @@ NoForm before after old new told = (after ≡ before) × (new ≡ old) × (told 
 abbrev pub Carried : {X C : Type 0} → Storage X C → (X → X → Bool) → Command → (before after : Contents X) → (old new : View X) → Answer → Type 0
 Carried k le (command.Choose kind counter) before after old new told = NoForm before after old new told
 Carried k le (command.Open width rows radius digits) before after old new told = OpenCarried k width rows radius (digits .now) before after told × (new ≡ old)
+Carried k le (command.Alter x y digits) before after old new told = AlterCarried k le x y (digits .now) before after told × (new ≡ old)
 Carried k le command.Sweep before after old new told = SweepCarried k le before after old new told
 Carried k le (command.Tell x y) before after old new told = TellCarried k le x y before told × (after ≡ before) × (new ≡ old)
+Carried k le (command.Share x y) before after old new told = ShareCarried k le x y before told × (after ≡ before) × (new ≡ old)
 Carried k le (command.Nearest x y) before after old new told = NearestCarried k le x y before told × (after ≡ before) × (new ≡ old)
 
 -- a line is served: the command that it writes is carried out; a line that writes none, or is too long, is denied
@@ -110,8 +131,10 @@ Served k le (Some line) before after old new told =
 abbrev pub Decodable : Command → Type 0
 Decodable (command.Choose kind counter) = Unit {0}
 Decodable (command.Open width rows radius digits) = HexPairs (digits .now) × (length (digits .now) ≤ 9000)
+Decodable (command.Alter x y digits) = HexPairs (digits .now) × (length (digits .now) ≤ 9000)
 Decodable command.Sweep = Unit {0}
 Decodable (command.Tell x y) = Unit {0}
+Decodable (command.Share x y) = Unit {0}
 Decodable (command.Nearest x y) = Unit {0}
 
 -- the first accepted line chooses a kind and a counter; every other line before it is denied

@@ -9,7 +9,7 @@ ghost use Rattle.console_text.specs.Hexadecimal.{HexPairs};
 ghost use Rattle.siting_box.specs.Boxes.{boxContents};
 ghost use Rattle.siting_box.specs.Contents.{Counted};
 ghost use Rattle.console.specs.Lines.{come};
-ghost use Rattle.console.specs.Sessions.{denialAnswer, OpenCarried, SweepCarried, TellCarried, NearestCarried, Carried, Served, Decodable, ChosenBy};
+ghost use Rattle.console.specs.Sessions.{denialAnswer, OpenCarried, AlterCarried, SweepCarried, TellCarried, ShareCarried, NearestCarried, Carried, Served, Decodable, ChosenBy};
 use crate::line::Line;
 use console_text::Answer;
 use console_text::Command;
@@ -78,6 +78,29 @@ fn open_plan<H: HeightKind>(
     }
 }
 
+// Gives a cell another stored height, written as hexadecimal digits.
+fn alter_height<H: HeightKind>(
+    siting: &mut SitingBox<'_, H>,
+    x: u32,
+    y: u32,
+    digits: &[u8],
+) -> Answer
+    requires pairs { ⌜ HexPairs (now digits) ⌝ }
+    requires short { ⌜ length (now digits) ≤ 9000 ⌝ }
+    ensures carried { λ r. ⌜ AlterCarried (storage H·HeightKind) (H·Height .notHigher) x y (now (digits .entry)) (boxContents (now (siting .entry))) (boxContents (now (siting .exit))) r ⌝ }
+    ensures counts { λ _. ⌜ (Counted (H·Height .notHigher) (boxContents (now (siting .entry))) → Counted (H·Height .notHigher) (boxContents (now (siting .exit)))) ⌝ }
+    ensures lent { λ _. ⌜ name (now (siting .exit) .parts .records) ≡ name (now (siting .entry) .parts .records) ⌝ }
+{
+    let mut stored = [0u8; 4500];
+    let Some(count) = unhex(digits, &mut stored) else {
+        return Answer::Denied { number: NO_FORM };
+    };
+    match siting.alter(x as usize, y as usize, &stored[0..count]) {
+        Ok(()) => Answer::Done,
+        Err(denial) => denial_answer(denial),
+    }
+}
+
 // Tells the nearest cell that is strictly higher than one.
 fn tell_nearest<H: HeightKind>(siting: &SitingBox<'_, H>, x: u32, y: u32) -> Answer
     ensures { λ r. ⌜ NearestCarried (storage H·HeightKind) (H·Height .notHigher) x y (boxContents (now (siting .entry))) r ⌝ }
@@ -117,6 +140,16 @@ fn tell_count<H: HeightKind>(siting: &SitingBox<'_, H>, x: u32, y: u32) -> Answe
     }
 }
 
+// Tells the share of a cell.
+fn tell_share<H: HeightKind>(siting: &SitingBox<'_, H>, x: u32, y: u32) -> Answer
+    ensures { λ r. ⌜ ShareCarried (storage H·HeightKind) (H·Height .notHigher) x y (boxContents (now (siting .entry))) r ⌝ }
+{
+    match siting.share(x as usize, y as usize) {
+        Ok(share) => Answer::Share(share),
+        Err(denial) => denial_answer(denial),
+    }
+}
+
 // Carries out a command on a box with a counter and tells what came of it.
 fn carry_out<H: HeightKind, C: Counter<Kind = H>>(
     siting: &mut SitingBox<'_, H>,
@@ -137,8 +170,10 @@ fn carry_out<H: HeightKind, C: Counter<Kind = H>>(
             radius,
             digits,
         } => open_plan(siting, width, rows, radius, digits),
+        Command::Alter { x, y, digits } => alter_height(siting, x, y, digits),
         Command::Sweep => sweep_next(siting, counter),
         Command::Tell { x, y } => tell_count(siting, x, y),
+        Command::Share { x, y } => tell_share(siting, x, y),
         Command::Nearest { x, y } => tell_nearest(siting, x, y),
     }
 }

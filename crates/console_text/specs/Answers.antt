@@ -4,7 +4,7 @@ use mathlib.Core.List.{List, [], _∷_, _++_}
 use lib.Chars.{codes}
 use Rattle.console_text.specs.Words.{afterSpaces}
 use Rattle.console_text.specs.declared.answers.Answer.{Answer}
-use Rattle.console_text.specs.declared.answers.Answer.the-variants.{Done, Steps, Told, Nearest, Denied, DeniedAt}
+use Rattle.console_text.specs.declared.answers.Answer.the-variants.{Done, Steps, Told, Share, Nearest, Denied, DeniedAt}
 use Rattle.std.specs.declared.option.Option.the-variants.{Some, None}
 use Rattle.std.specs.Written.{decimal}
 
@@ -13,6 +13,7 @@ abbrev pub rendered : Answer → List ℕ
 rendered Done = codes "ok"
 rendered (Steps steps) = codes "ok" ++ afterSpaces (decimal steps ∷ [])
 rendered (Told count cells) = decimal count ++ afterSpaces (decimal cells ∷ [])
+rendered (Share share) = decimal share
 rendered (Nearest (Some higher)) = decimal (higher .place .x) ++ afterSpaces (decimal (higher .place .y) ∷ decimal (higher .distance) ∷ [])
 rendered (Nearest None) = codes "no higher ground"
 rendered (Denied number) = codes "no" ++ afterSpaces (decimal number ∷ [])

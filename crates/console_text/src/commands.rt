@@ -10,10 +10,11 @@ pub enum KindLetter {
 // The letter of a counter.
 #[derive(Clone, Copy)]
 pub enum CounterLetter {
+    FingerList,
     ShiftArray,
 }
 
-// One command; the digits of an opened plan are part of its line.
+// One command; the digits of stored heights are part of its line.
 #[derive(Clone, Copy)]
 pub enum Command<'a> {
     Choose {
@@ -26,8 +27,17 @@ pub enum Command<'a> {
         radius: u32,
         digits: &'a [u8],
     },
+    Alter {
+        x: u32,
+        y: u32,
+        digits: &'a [u8],
+    },
     Sweep,
     Tell {
+        x: u32,
+        y: u32,
+    },
+    Share {
         x: u32,
         y: u32,
     },

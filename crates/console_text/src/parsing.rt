@@ -26,6 +26,7 @@ fn counter_letter(byte: u8) -> Option<CounterLetter>
     ensures { λ r. ⌜ Cases r ((counter : CounterLetter) → counterByte counter ≡ byte → ⊥) (λ counter. counterByte counter ≡ byte) ⌝ }
 {
     match byte as char {
+        'L' => Some(CounterLetter::FingerList),
         'A' => Some(CounterLetter::ShiftArray),
         _ => None,
     }
@@ -72,6 +73,16 @@ fn open_command(text: &[u8]) -> Option<Command<'_>>
     })
 }
 
+// What follows the letter A: a place and one stored height.
+fn alter_command(text: &[u8]) -> Option<Command<'_>>
+    ensures { λ r. ⌜ Tail 65 (now (text .entry)) r ⌝ }
+{
+    let (x, text) = number_field(text)?;
+    let (y, text) = number_field(text)?;
+    let digits = hex_field(text)?;
+    Some(Command::Alter { x, y, digits })
+}
+
 // What follows the letter S: nothing.
 fn sweep_command(text: &[u8]) -> Option<Command<'_>>
     ensures { λ r. ⌜ Tail 83 (now (text .entry)) r ⌝ }
@@ -89,6 +100,14 @@ fn tell_command(text: &[u8]) -> Option<Command<'_>>
 {
     let (x, y) = two_numbers(text)?;
     Some(Command::Tell { x, y })
+}
+
+// What follows the letter H: a place.
+fn share_command(text: &[u8]) -> Option<Command<'_>>
+    ensures { λ r. ⌜ Tail 72 (now (text .entry)) r ⌝ }
+{
+    let (x, y) = two_numbers(text)?;
+    Some(Command::Share { x, y })
 }
 
 // What follows the letter N: a place.
@@ -109,8 +128,10 @@ pub fn parse(line: &[u8]) -> Option<Command<'_>>
     match *letter as char {
         'K' => choose_command(text),
         'O' => open_command(text),
+        'A' => alter_command(text),
         'S' => sweep_command(text),
         'T' => tell_command(text),
+        'H' => share_command(text),
         'N' => nearest_command(text),
         _ => None,
     }

@@ -27,6 +27,7 @@ fn words(answer: Answer) -> AnswerLine
             line.push_number(count);
             line.push_field(cells);
         }
+        Answer::Share(share) => line.push_number(share),
         Answer::Nearest(Some(higher)) => {
             line.push_number(higher.place.x as u64);
             line.push_field(higher.place.y as u64);

@@ -1,7 +1,7 @@
 -- The window of a cell and its count.
 use mathlib.Core.Bool.{Bool, false, cond, _&&_}
 use mathlib.Core.List.{List, []}
-use Prim.Native.Nat.{ℕ, _+_}
+use Prim.Native.Nat.{ℕ, _+_, _*_, _/_}
 use lib.Dec.{leb}
 use Rattle.std.specs.Joined.{joined}
 use Rattle.std.specs.Vec.{listOf}
@@ -36,3 +36,11 @@ countAt le t r p = tally (λ q. reaches r p q && isNotHigher le (heightAt t q) (
 -- the heights of the cells of a window, in reading order
 abbrev pub windowHeights : {X : Type 0} → Terrain X → ℕ → Place → List X
 windowHeights t r p = joined (λ q. cond (reaches r p q) (listOf (heightAt t q)) []) (cells (t .width) (t .rows))
+
+-- a count as a share of the full window of radius r: thousandths of its (2r + 1)² cells, rounded down
+abbrev pub shareOf : (count r : ℕ) → ℕ
+shareOf count r = 1000 * count / ((2 * r + 1) * (2 * r + 1))
+
+-- the share of a cell
+abbrev pub shareAt : {X : Type 0} → (X → X → Bool) → Terrain X → ℕ → Place → ℕ
+shareAt le t r p = shareOf (countAt le t r p) r

@@ -9,6 +9,10 @@ use console_text::CounterLetter;
 use console_text::KindLetter;
 use console_text::render;
 use counters::counter::Counter;
+use finger_list::counter::FingerListCounter;
+use finger_list::list::FingerList;
+use flat_layer::counter::FlatLayerCounter;
+use flat_layer::layer::FlatLayer;
 use grid::CellRecord;
 use heights::float::FloatBits;
 use heights::float::FloatHeight;
@@ -19,7 +23,6 @@ use heights::whole::WholeMetres;
 use reader::Reader;
 use shift_array::array::ShiftArray;
 use shift_array::counter::ShiftArrayCounter;
-use shift_array::entry::Entry;
 use siting_box::SitingBox;
 use std::io;
 use std::io::Write;
@@ -50,67 +53,112 @@ fn wait_for_choice(
     Ok(None)
 }
 
-// Answers lines from a box over these records and with this counter.
-fn serve_lines<H: HeightKind, C: Counter<Kind = H>>(
+// Answers lines from a box over these records, with the flat layer over this counter.
+fn serve_lines<H: HeightKind, C: Counter<Kind = H> + Drop>(
     rt: &LibcRuntime,
     reader: &mut Reader,
     line: &mut Line,
     records: &mut [CellRecord<H>],
-    counter: &mut C,
+    counter: C,
 ) -> io::Result<()> {
     let mut siting = SitingBox::new(records);
+    let mut layer = FlatLayer::over(counter);
     for _ in 0..u64::MAX {
         if !reader.read_line(line)? {
             break;
         }
-        tell(rt, serve(&mut siting, counter, line))?;
+        tell(rt, serve(&mut siting, &mut layer, line))?;
     }
     Ok(())
 }
 
 // Serves heights in whole metres, with 1,024 records and 1,024 places.
-fn serve_whole(rt: &LibcRuntime, reader: &mut Reader, line: &mut Line) -> io::Result<()> {
+fn serve_whole(
+    rt: &LibcRuntime,
+    reader: &mut Reader,
+    line: &mut Line,
+    counter: CounterLetter,
+) -> io::Result<()> {
     let mut records = [CellRecord {
         height: 0i16,
         count: 0,
     }; 1024];
-    let mut entries = [Entry {
-        height: 0i16,
-        number: 0,
-    }; 1027];
-    let mut counter = ShiftArray::over(&mut entries);
-    serve_lines(rt, reader, line, &mut records, &mut counter)
+    match counter {
+        CounterLetter::FingerList => {
+            let mut entries = [finger_list::entry::Entry {
+                height: 0i16,
+                number: 0,
+                next: 0,
+                prev: 0,
+            }; 1027];
+            serve_lines(
+                rt,
+                reader,
+                line,
+                &mut records,
+                FingerList::over(&mut entries),
+            )
+        }
+        CounterLetter::ShiftArray => {
+            let mut entries = [shift_array::entry::Entry {
+                height: 0i16,
+                number: 0,
+            }; 1027];
+            serve_lines(
+                rt,
+                reader,
+                line,
+                &mut records,
+                ShiftArray::over(&mut entries),
+            )
+        }
+    }
 }
 
 // Serves heights in floating-point metres, with 1,024 records and 1,024 places.
-fn serve_float(rt: &LibcRuntime, reader: &mut Reader, line: &mut Line) -> io::Result<()> {
-    let sea_level = FloatBits { bits: 0 };
-    let mut records = [CellRecord {
-        height: sea_level,
-        count: 0,
-    }; 1024];
-    let mut entries = [Entry {
-        height: sea_level,
-        number: 0,
-    }; 1027];
-    let mut counter = ShiftArray::over(&mut entries);
-    serve_lines(rt, reader, line, &mut records, &mut counter)
+fn serve_float(
+    rt: &LibcRuntime,
+    reader: &mut Reader,
+    line: &mut Line,
+    counter: CounterLetter,
+) -> io::Result<()> {
+    let height = FloatBits { bits: 0 };
+    let mut records = [CellRecord { height, count: 0 }; 1024];
+    match counter {
+        CounterLetter::FingerList => {
+            let mut entries = [finger_list::entry::Entry {
+                height,
+                number: 0,
+                next: 0,
+                prev: 0,
+            }; 1027];
+            serve_lines(
+                rt,
+                reader,
+                line,
+                &mut records,
+                FingerList::over(&mut entries),
+            )
+        }
+        CounterLetter::ShiftArray => {
+            let mut entries = [shift_array::entry::Entry { height, number: 0 }; 1027];
+            serve_lines(
+                rt,
+                reader,
+                line,
+                &mut records,
+                ShiftArray::over(&mut entries),
+            )
+        }
+    }
 }
 
 fn main(rt: LibcRuntime) -> io::Result<()> {
     let mut reader = Reader::new(rt.stdin());
     let mut line = Line::new();
     match wait_for_choice(&rt, &mut reader, &mut line)? {
-        Some((KindLetter::Whole, CounterLetter::ShiftArray)) => serve_whole(
-            &rt,
-            &mut reader,
-            &mut line,
-        ),
-        Some((KindLetter::Float, CounterLetter::ShiftArray)) => serve_float(
-            &rt,
-            &mut reader,
-            &mut line,
-        ),
+        Some((KindLetter::Whole, counter)) => serve_whole(&rt, &mut reader, &mut line, counter),
+        Some((KindLetter::Float, counter)) => serve_float(&rt, &mut reader, &mut line, counter),
         None => Ok(()),
     }
 }

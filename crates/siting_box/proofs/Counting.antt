@@ -25,13 +25,17 @@ use Rattle.grid.specs.declared.Place.{Place}
 use Rattle.grid.specs.declared.CellRecord.{CellRecord}
 use Rattle.grid.specs.Terrain.{Terrain, Inside, readingIndex, heightsOf}
 use Rattle.grid.specs.Window.{countAt}
-use Rattle.sweep.specs.Sweeping.{Swept}
+use Rattle.sweep.specs.Sweeping.{terrainOf, Swept}
+use Rattle.alteration.specs.Altering.{Altered}
 use Rattle.siting_box.specs.Contents.{Contents, contents, fitsIn, wellFitted, planTerrain, Counted}
 use Rattle.siting_box.specs.Stored.{storedAt, readMore, readFirst}
 use Rattle.siting_box.specs.Fresh.{fresh}
 use Rattle.siting_box.specs.declared.denial.Denial.{Denial}
-use Rattle.siting_box.specs.Calls.{Opened, OpenLeaves, SweptPlan, SweepLeaves, withRow}
+use Rattle.siting_box.specs.Calls.{Opened, OpenLeaves, AlteredPlan, AlterLeaves, SweptPlan, SweepLeaves, withRow}
 use Rattle.siting_box.proofs.Plans.{fitting, there}
+
+some-same : (a b : ℕ) → Some a ≡ Some b → a ≡ b
+some-same a b e = cc
 
 -- ---- open
 
@@ -158,6 +162,59 @@ counted-swept le before after v w mileage s fit counted =
     let was : contents (Some p) (before .records) ≡ before = ap (λ q. contents q (before .records)) (sym (s .plan-is)) in
     let is : contents (Some (withRow p)) (s .cells ++ drop (p .width * p .rows) (before .records)) ≡ after = ap (λ q. contents q (s .cells ++ drop (p .width * p .rows) (before .records))) (sym (s .plan-after)) ∙ ap (contents (after .plan)) (sym (s .records-after)) in
     subst (Counted le) is (swept-counts le p (before .records) (s .cells) v w mileage fit (s .row) (subst (Counted le) (sym was) counted))
+
+-- ---- alter
+
+module _ {X : Type 0} (le : X → X → Bool) (p : Plan) (old after : List (CellRecord X)) (x y : ℕ) (height : X) (fit : fitsIn p (length old) ≡ true) (s : Altered le (p .width) (p .rows) (p .radius) (p .swept) x y height (take (p .width * p .rows) old) after) where
+  all-there : length after ≡ p .width * p .rows
+  all-there = s .length-is ∙ length-take (p .width * p .rows) old ∙ omega (arith, fitting p (length old) fit .recorded)
+
+  -- the grid after the alteration
+  terrain-after : planTerrain (Some p) (after ++ drop (p .width * p .rows) old) ≡ terrainOf (p .width) (p .rows) after
+  terrain-after =
+      let of-heights : List X → Terrain X = λ hs. record { width = p .width; rows = p .rows; heights = hs } in
+      let front : take (p .width * p .rows) (after ++ drop (p .width * p .rows) old) ≡ after = ap (λ m. take m (after ++ drop (p .width * p .rows) old)) (sym all-there) ∙ take-append-seam after (drop (p .width * p .rows) old) in
+      ap of-heights (ap heightsOf front)
+
+  -- the count of a cell after the alteration, by whether its row is swept
+  mended-count : (q : Place) (b : Bool) → ltb (q .y) (p .swept) ≡ b → Inside (planTerrain (Some p) old) q → (c c′ : CellRecord X) → ((d : CellRecord X) → getD (take (p .width * p .rows) old) (readingIndex (p .width) q) d ≡ c) → ((d : CellRecord X) → getD after (readingIndex (p .width) q) d ≡ c′)
+      → c .count ≡ cond b (countAt le (planTerrain (Some p) old) (p .radius) q) 0 → c′ .count ≡ cond b (countAt le (terrainOf (p .width) (p .rows) after) (p .radius) q) 0
+  mended-count q true e inside c c′ is is′ was =
+      let lt : q .y < p .swept = grind (arith, tells) in
+      let count : CellRecord X → ℕ = λ r. r .count in
+      sym (ap count (is′ c)) ∙ s .counts (q .x) (q .y) c (inside .0) lt (ap count (is c) ∙ was)
+  mended-count q false e inside c c′ is is′ was =
+      let ge : p .swept ≤ q .y = grind (arith, tells) in
+      let count : CellRecord X → ℕ = λ r. r .count in
+      sym (ap count (is′ c)) ∙ s .unswept (readingIndex (p .width) q) c (omega (arith, mul-le-mul-right (p .width) ge)) ∙ ap count (is c) ∙ was
+
+  altered-counts : Counted le (contents (Some p) old) → Counted le (contents (Some p) (after ++ drop (p .width * p .rows) old))
+  altered-counts counted q inside =
+      let i = readingIndex (p .width) q in
+      let below : i < p .width * p .rows = mul-add-lt (q .y) (p .width) (q .x) (p .rows) (inside .1) (inside .0) in
+      let found = there old i (omega (arith, fitting p (length old) fit .recorded)) in
+      let found′ = front-record after (drop (p .width * p .rows) old) i (omega (arith, all-there)) in
+      let was : Some (found .0 .count) ≡ Some (cond (ltb (q .y) (p .swept)) (countAt le (planTerrain (Some p) old) (p .radius) q) 0) = sym (ap (mapped (λ (r : CellRecord X). r .count)) (found .1)) ∙ counted q inside in
+      let is = mended-count q (ltb (q .y) (p .swept)) refl inside (found .0) (found′ .0) (λ d. getD-take (p .width * p .rows) old i d below ∙ found .2 d) (found′ .2) (some-same _ _ was) in
+      ap (mapped (λ (r : CellRecord X). r .count)) (found′ .1)
+      ∙ ap Some is
+      ∙ ap (λ t. Some (cond (ltb (q .y) (p .swept)) (countAt le t (p .radius) q) 0)) (sym terrain-after)
+
+-- an accepted alter keeps the counts the defined ones
+counted-altered : {X C : Type 0} (k : Storage X C) (le : X → X → Bool) (x y : ℕ) (bytes : List ℕ) (before after : Contents X) → (s : AlteredPlan k le x y bytes before after) → fitsIn (s .plan) (length (before .records)) ≡ true → Counted le before → Counted le after
+counted-altered k le x y bytes before after s fit counted =
+    let p = s .plan in
+    let was : contents (Some p) (before .records) ≡ before = ap (λ q. contents q (before .records)) (sym (s .plan-is)) in
+    let is : contents (Some p) (s .cells ++ drop (p .width * p .rows) (before .records)) ≡ after = ap (λ q. contents q (s .cells ++ drop (p .width * p .rows) (before .records))) (sym (s .plan-after)) ∙ ap (contents (after .plan)) (sym (s .records-after)) in
+    subst (Counted le) is (altered-counts le p (before .records) (s .cells) x y (s .height) fit (s .altered) (subst (Counted le) (sym was) counted))
+
+-- ---- all of them
+
+-- alter keeps the counts the defined ones, accepted or not
+pub alter-keeps : {X C : Type 0} (k : Storage X C) (le : X → X → Bool) (x y : ℕ) (bytes : List ℕ) (before after : Contents X) (r : Result Unit (Denial C)) → AlterLeaves k le x y bytes before after r → wellFitted (before .plan) (length (before .records)) ≡ true → Counted le before → Counted le after
+alter-keeps k le x y bytes before after (Ok done) s fit counted =
+    counted-altered k le x y bytes before after s (subst (λ o. wellFitted o (length (before .records)) ≡ true) (s .plan-is) fit) counted
+alter-keeps k le x y bytes before after (Err denial) leaves fit counted = subst (Counted le) (sym (leaves .0)) counted
 
 -- open keeps the counts the defined ones, accepted or not
 pub open-keeps : {X C : Type 0} (le : X → X → Bool) (k : Storage X C) (width rows radius : ℕ) (bytes : List ℕ) (before after : Contents X) (r : Result Unit (Denial C)) → OpenLeaves k width rows radius bytes before after r → Counted le before → Counted le after

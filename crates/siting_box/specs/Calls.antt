@@ -18,8 +18,9 @@ use Rattle.grid.specs.declared.Place.{Place}
 use Rattle.grid.specs.declared.Plan.{Plan}
 use Rattle.grid.specs.declared.CellRecord.{CellRecord}
 use Rattle.grid.specs.Nearest.{Nearest}
-use Rattle.grid.specs.Window.{countAt, windowSize}
+use Rattle.grid.specs.Window.{countAt, windowSize, shareOf, shareAt}
 use Rattle.sweep.specs.Sweeping.{placesNeeded, Swept}
+use Rattle.alteration.specs.Altering.{Altered}
 use Rattle.siting_box.specs.declared.denial.Denial.{Denial}
 use Rattle.siting_box.specs.declared.denial.Denial.the-variants.{NoPlan, Sizes, TooFewRecords, Outside, StoredLength, Unread, NoRowLeft, TooFewPlaces, NotSwept}
 use Rattle.siting_box.specs.declared.told.Told.{Told}
@@ -51,22 +52,52 @@ pub record Opened {X C : Type 0} (k : Storage X C) (width rows radius : ℕ) (by
   pub plan : after .plan ≡ Some (record { width = width; rows = rows; radius = radius; swept = 0 })
   pub records : after .records ≡ map fresh heights ++ drop (width * rows) (before .records)
 
--- a denial by question 6 carries the cause and the cell of the first stored height that does not read; others carry nothing
-abbrev pub Blames : {X C : Type 0} → Storage X C → (width rows : ℕ) → List ℕ → Denial C → Type 0
-Blames k width rows bytes NoPlan = Unit {0}
-Blames k width rows bytes Sizes = Unit {0}
-Blames k width rows bytes TooFewRecords = Unit {0}
-Blames k width rows bytes Outside = Unit {0}
-Blames k width rows bytes StoredLength = Unit {0}
-Blames k width rows bytes (Unread cause x y) = (x < width) × (readFirst k bytes (width * rows) ≡ Err (y * width + x, cause))
-Blames k width rows bytes NoRowLeft = Unit {0}
-Blames k width rows bytes TooFewPlaces = Unit {0}
-Blames k width rows bytes NotSwept = Unit {0}
+-- a denial by question 6 carries a cause and a cell, of which something is said; others carry nothing
+abbrev pub Carries : {C : Type 0} → (C → (x y : ℕ) → Type 0) → Denial C → Type 0
+Carries P NoPlan = Unit {0}
+Carries P Sizes = Unit {0}
+Carries P TooFewRecords = Unit {0}
+Carries P Outside = Unit {0}
+Carries P StoredLength = Unit {0}
+Carries P (Unread cause x y) = P cause x y
+Carries P NoRowLeft = Unit {0}
+Carries P TooFewPlaces = Unit {0}
+Carries P NotSwept = Unit {0}
+
+-- the cause and the cell of the first stored height that does not read
+abbrev pub FirstUnread : {X C : Type 0} → Storage X C → (width rows : ℕ) → List ℕ → C → (x y : ℕ) → Type 0
+FirstUnread k width rows bytes cause x y = (x < width) × (readFirst k bytes (width * rows) ≡ Err (y * width + x, cause))
 
 -- what open leaves: a denied open changes nothing
 abbrev pub OpenLeaves : {X C : Type 0} → Storage X C → (width rows radius : ℕ) → List ℕ → (before after : Contents X) → Result Unit (Denial C) → Type 0
 OpenLeaves k width rows radius bytes before after (Ok answer) = Opened k width rows radius bytes before after
-OpenLeaves k width rows radius bytes before after (Err denial) = (after ≡ before) × Blames k width rows bytes denial
+OpenLeaves k width rows radius bytes before after (Err denial) = (after ≡ before) × Carries (FirstUnread k width rows bytes) denial
+
+-- what alter asks: 1 the plan, 4 the cell, 5 the number of bytes, 6 that the stored height reads
+abbrev pub alterQuestions : {X C : Type 0} → Storage X C → Contents X → (x y : ℕ) → List ℕ → List (ℕ × Bool)
+alterQuestions k b x y bytes =
+    (1, holdsPlan b) ∷ ((4, hasCell (b .plan) x y) ∷ ((5, eqb (length bytes) (k .wide)) ∷ ((6, isOk (k .reads bytes)) ∷ [])))
+
+-- what an accepted alter leaves: the plan as it was, its cells as the alteration of the one cell leaves them, and the records
+-- beyond as they were
+pub record AlteredPlan {X C : Type 0} (k : Storage X C) (le : X → X → Bool) (x y : ℕ) (bytes : List ℕ) (before after : Contents X) : Type 0 where
+  pub plan : Plan
+  pub plan-is : before .plan ≡ Some plan
+  pub plan-after : after .plan ≡ Some plan
+  pub height : X
+  pub read : k .reads bytes ≡ Ok height
+  pub cells : List (CellRecord X)
+  pub records-after : after .records ≡ cells ++ drop (plan .width * plan .rows) (before .records)
+  pub altered : Altered le (plan .width) (plan .rows) (plan .radius) (plan .swept) x y height (take (plan .width * plan .rows) (before .records)) cells
+
+-- the cause of the one stored height, and the cell that was to be altered
+abbrev pub CellUnread : {X C : Type 0} → Storage X C → (x y : ℕ) → List ℕ → C → (x′ y′ : ℕ) → Type 0
+CellUnread k x y bytes cause x′ y′ = (k .reads bytes ≡ Err cause) × (x′ ≡ x) × (y′ ≡ y)
+
+-- what alter leaves: a denied alter changes nothing
+abbrev pub AlterLeaves : {X C : Type 0} → Storage X C → (X → X → Bool) → (x y : ℕ) → List ℕ → (before after : Contents X) → Result Unit (Denial C) → Type 0
+AlterLeaves k le x y bytes before after (Ok answer) = AlteredPlan k le x y bytes before after
+AlterLeaves k le x y bytes before after (Err denial) = (after ≡ before) × Carries (CellUnread k x y bytes) denial
 
 -- 7: is a row left
 abbrev pub rowLeft : Option Plan → Bool
@@ -115,6 +146,22 @@ pub record TellsCount {X : Type 0} (le : X → X → Bool) (b : Contents X) (p :
 abbrev pub TellAnswer : {X C : Type 0} → (X → X → Bool) → Contents X → (x y : ℕ) → Result Told (Denial C) → Type 0
 TellAnswer le b x y (Ok told) = TellsCount le b (record { x = x; y = y }) told
 TellAnswer le b x y (Err denial) = Unit {0}
+
+-- what share asks: what tell asks
+abbrev pub shareQuestions : {X : Type 0} → Contents X → (x y : ℕ) → List (ℕ × Bool)
+shareQuestions b x y = tellQuestions b x y
+
+-- what share answers: the share of the count on record, which is that of the defined count in a box whose counts are
+pub record TellsShare {X : Type 0} (le : X → X → Bool) (b : Contents X) (p : Place) (share : ℕ) : Type 0 where
+  pub count : ℕ
+  pub on-record : countOn b p ≡ Some count
+  pub share-is : share ≡ shareOf count (radiusOf (b .plan))
+  pub defined : Counted le b → share ≡ shareAt le (planTerrain (b .plan) (b .records)) (radiusOf (b .plan)) p
+
+-- what an accepted share answers
+abbrev pub ShareAnswer : {X C : Type 0} → (X → X → Bool) → Contents X → (x y : ℕ) → Result ℕ (Denial C) → Type 0
+ShareAnswer le b x y (Ok share) = TellsShare le b (record { x = x; y = y }) share
+ShareAnswer le b x y (Err denial) = Unit {0}
 
 -- what nearest asks: 1 the plan, 4 the cell
 abbrev pub nearestQuestions : {X : Type 0} → Contents X → (x y : ℕ) → List (ℕ × Bool)

@@ -1,15 +1,15 @@
 //! The parts of a box, and its calls on them.
 ghost use mathlib.Core.Path.{_≡_};
 ghost use mathlib.Core.Bool.{true};
-ghost use Prim.Native.Nat.{ℕ};
+ghost use Prim.Native.Nat.{ℕ, _≤_};
 ghost use denote.Ref.{name};
 ghost use lib.ListN.{length};
 ghost use Rattle.std.specs.Results.{Cases};
 ghost use Rattle.heights.specs.Meaning.{storage};
 ghost use Rattle.siting_box.specs.InParts.{partsContents};
 ghost use Rattle.siting_box.specs.Denials.{deniedBy, firstNo};
-ghost use Rattle.siting_box.specs.Contents.{wellFitted, lawfulSizes};
-ghost use Rattle.siting_box.specs.Calls.{openQuestions, OpenLeaves, nearestQuestions, NearestAnswer, tellQuestions, TellAnswer, sweepQuestions, SweepLeaves};
+ghost use Rattle.siting_box.specs.Contents.{wellFitted, lawfulSizes, radiusOf};
+ghost use Rattle.siting_box.specs.Calls.{openQuestions, OpenLeaves, alterQuestions, AlterLeaves, nearestQuestions, NearestAnswer, tellQuestions, TellAnswer, shareQuestions, ShareAnswer, sweepQuestions, SweepLeaves};
 use crate::denial::Denial;
 use crate::search;
 use crate::stored::fill;
@@ -17,6 +17,8 @@ use crate::stored::first_failure;
 use crate::told::Told;
 use crate::window::count_at;
 use crate::window::extent;
+use crate::window::share_of;
+use alteration::cell::alter_cell;
 use counters::counter::Counter;
 use grid::CellRecord;
 use grid::Higher;
@@ -25,6 +27,7 @@ use grid::LONGEST_SIDE;
 use grid::Place;
 use grid::Plan;
 use heights::height::HeightKind;
+use heights::height::Unread;
 use sweep::row::sweep_row;
 
 // Whether a plan may have these sizes.
@@ -90,6 +93,42 @@ impl<'a, H: HeightKind> Parts<'a, H> {
         Ok(())
     }
 
+    // Gives a cell another stored height and mends the counts around it.
+    pub(crate) fn alter(&mut self, x: usize, y: usize, bytes: &[u8]) -> Result<(), Denial<H::Cause>>
+        requires { ⌜ wellFitted (now self .plan) (length (now (now self .records))) ≡ true ⌝ }
+        ensures fitted { λ _. ⌜ wellFitted (now (self .exit) .plan) (length (now (now (self .exit) .records))) ≡ true ⌝ }
+        ensures denial { λ r. ⌜ deniedBy r ≡ firstNo (alterQuestions (storage H·HeightKind) (partsContents (now (self .entry))) x y (now (bytes .entry))) ⌝ }
+        ensures leaves { λ r. ⌜ AlterLeaves (storage H·HeightKind) (H·Height .notHigher) x y (now (bytes .entry)) (partsContents (now (self .entry))) (partsContents (now (self .exit))) r ⌝ }
+        ensures lent { λ _. ⌜ name (now (self .exit) .records) ≡ name (now (self .entry) .records) ⌝ }
+    {
+        let Some(plan) = self.plan else {
+            return Err(Denial::NoPlan);
+        };
+        if x >= plan.width || y >= plan.rows {
+            return Err(Denial::Outside);
+        }
+        let height = match H::read(bytes) {
+            Ok(height) => height,
+            Err(Unread::Length) => return Err(Denial::StoredLength),
+            Err(Unread::Cause(cause)) => return Err(Denial::Unread { cause, x, y }),
+        };
+        let cells = plan.width * plan.rows;
+        if alter_cell(
+            &mut self.records[0..cells],
+            plan.width,
+            plan.rows,
+            plan.radius,
+            plan.swept,
+            x,
+            y,
+            height,
+        ) {
+            Ok(())
+        } else {
+            unreachable()
+        }
+    }
+
     // Sweeps the next row with a counter and answers the counter's mileage.
     pub(crate) fn sweep<C: Counter<Kind = H>>(
         &mut self,
@@ -151,6 +190,31 @@ impl<'a, H: HeightKind> Parts<'a, H> {
             count,
             cells: (columns * rows) as u32,
         })
+    }
+
+    // The radius of the plan's windows, or 0 without a plan.
+    fn radius(&self) -> usize
+        requires { ⌜ wellFitted (now self .plan) (length (now (now self .records))) ≡ true ⌝ }
+        ensures exact { λ r. ⌜ r ≡ radiusOf (now (self .entry) .plan) ⌝ }
+        ensures small { λ r. ⌜ r ≤ 255 ⌝ }
+    {
+        match self.plan {
+            None => 0,
+            Some(plan) => plan.radius,
+        }
+    }
+
+    // The share of a cell: its count in thousandths of the full window.
+    pub(crate) fn share(&self, x: usize, y: usize) -> Result<u64, Denial<H::Cause>>
+        requires { ⌜ wellFitted (now self .plan) (length (now (now self .records))) ≡ true ⌝ }
+        ensures denial { λ r. ⌜ deniedBy r ≡ firstNo (shareQuestions (partsContents (now (self .entry))) x y) ⌝ }
+        ensures answer { λ r. ⌜ ShareAnswer (H·Height .notHigher) (partsContents (now (self .entry))) x y r ⌝ }
+    {
+        let radius = self.radius();
+        match self.tell(x, y) {
+            Ok(told) => Ok(share_of(told.count, radius)),
+            Err(denial) => Err(denial),
+        }
     }
 
     // The nearest cell that is strictly higher than one.

@@ -90,7 +90,7 @@ fn chooses(text: &str) -> bool {
 // Only K with a kind and a counter chooses them.
 #[test]
 fn first_line() -> Result<(), Fail> {
-    check(chooses("K W A") && chooses("K F A"))?;
-    check(!chooses("K W L") && !chooses("K W") && !chooses("K  W A") && !chooses("K W A "))?;
+    check(chooses("K W A") && chooses("K F A") && chooses("K W L") && chooses("K F L"))?;
+    check(!chooses("K L W") && !chooses("K W") && !chooses("K  W A") && !chooses("K W A "))?;
     check(!chooses("") && !chooses("S") && !chooses("O 1 1 1 0001") && !chooses("k W A"))
 }

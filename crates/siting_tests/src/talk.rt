@@ -3,6 +3,8 @@ use console::line::Line;
 use console::session::serve;
 use console_text::render;
 use counters::counter::Counter;
+use flat_layer::counter::FlatLayerCounter;
+use flat_layer::layer::FlatLayer;
 use grid::CellRecord;
 use heights::height::HeightKind;
 use siting_box::SitingBox;
@@ -23,15 +25,21 @@ pub fn ask<H: HeightKind, C: Counter<Kind = H>>(
     check(told.as_bytes() == answer)
 }
 
-// Serves the lines one after another.
-pub fn talk<H: HeightKind, C: Counter<Kind = H>>(
+// Serves the lines one after another, with the flat layer over a counter.
+pub fn talk<H: HeightKind, C: Counter<Kind = H> + Drop>(
     records: &mut [CellRecord<H>],
-    counter: &mut C,
+    counter: C,
     turns: &[(&str, &str)],
 ) -> Result<(), Fail> {
     let mut siting = SitingBox::new(records);
+    let mut layer = FlatLayer::over(counter);
     for turn in turns {
-        ask(&mut siting, counter, turn.0.as_bytes(), turn.1.as_bytes()).note(turn.0)?;
+        ask(
+            &mut siting,
+            &mut layer,
+            turn.0.as_bytes(),
+            turn.1.as_bytes(),
+        ).note(turn.0)?;
     }
     Ok(())
 }

@@ -1,11 +1,12 @@
 //! Sessions over whole heights.
 use crate::talk::talk;
+use finger_list::counter::FingerListCounter;
+use finger_list::list::FingerList;
 use grid::CellRecord;
 use heights::whole::WholeHeight;
 use heights::whole::WholeMetres;
 use shift_array::array::ShiftArray;
 use shift_array::counter::ShiftArrayCounter;
-use shift_array::entry::Entry;
 use std::test::*;
 
 // The worked plan in the fewest records and places; calls before the plan, and after the last row.
@@ -15,14 +16,13 @@ fn worked_plan() -> Result<(), Fail> {
         height: 0i16,
         count: 0,
     }; 6];
-    let mut entries = [Entry {
+    let mut entries = [shift_array::entry::Entry {
         height: 0i16,
         number: 0,
     }; 9];
-    let mut counter = ShiftArray::over(&mut entries);
     talk(
         &mut records,
-        &mut counter,
+        ShiftArray::over(&mut entries),
         &[
             ("T 0 0", "no 1\n"),
             ("S", "no 1\n"),
@@ -56,14 +56,13 @@ fn a_record_too_few() -> Result<(), Fail> {
         height: 0i16,
         count: 0,
     }; 5];
-    let mut entries = [Entry {
+    let mut entries = [shift_array::entry::Entry {
         height: 0i16,
         number: 0,
     }; 9];
-    let mut counter = ShiftArray::over(&mut entries);
     talk(
         &mut records,
-        &mut counter,
+        ShiftArray::over(&mut entries),
         &[
             ("O 3 2 1 000500070007000300050009", "no 3\n"),
             ("S", "no 1\n"),
@@ -82,14 +81,13 @@ fn a_place_too_few() -> Result<(), Fail> {
         height: 0i16,
         count: 0,
     }; 6];
-    let mut entries = [Entry {
+    let mut entries = [shift_array::entry::Entry {
         height: 0i16,
         number: 0,
     }; 8];
-    let mut counter = ShiftArray::over(&mut entries);
     talk(
         &mut records,
-        &mut counter,
+        ShiftArray::over(&mut entries),
         &[
             ("O 3 2 1 000500070007000300050009", "ok\n"),
             ("S", "no 8\n"),
@@ -109,14 +107,13 @@ fn limits_of_sizes() -> Result<(), Fail> {
         height: 0i16,
         count: 0,
     }; 1024];
-    let mut entries = [Entry {
+    let mut entries = [shift_array::entry::Entry {
         height: 0i16,
         number: 0,
     }; 1027];
-    let mut counter = ShiftArray::over(&mut entries);
     talk(
         &mut records,
-        &mut counter,
+        ShiftArray::over(&mut entries),
         &[
             ("O 1 1 255 0001", "ok\n"),
             ("O 1 1 256 0001", "no 2\n"),
@@ -141,14 +138,13 @@ fn one_cell() -> Result<(), Fail> {
         height: 0i16,
         count: 0,
     }; 1024];
-    let mut entries = [Entry {
+    let mut entries = [shift_array::entry::Entry {
         height: 0i16,
         number: 0,
     }; 1027];
-    let mut counter = ShiftArray::over(&mut entries);
     talk(
         &mut records,
-        &mut counter,
+        ShiftArray::over(&mut entries),
         &[
             ("O 1 1 255 8000", "ok\n"),
             ("N 0 0", "no higher ground\n"),
@@ -169,14 +165,13 @@ fn narrower_than_the_window() -> Result<(), Fail> {
         height: 0i16,
         count: 0,
     }; 1024];
-    let mut entries = [Entry {
+    let mut entries = [shift_array::entry::Entry {
         height: 0i16,
         number: 0,
     }; 1027];
-    let mut counter = ShiftArray::over(&mut entries);
     talk(
         &mut records,
-        &mut counter,
+        ShiftArray::over(&mut entries),
         &[
             ("O 2 5 3 00010002000200010003000300000005FFFFFFFF", "ok\n"),
             ("S", "ok 3\n"),
@@ -218,14 +213,13 @@ fn flat_ground() -> Result<(), Fail> {
         height: 0i16,
         count: 0,
     }; 1024];
-    let mut entries = [Entry {
+    let mut entries = [shift_array::entry::Entry {
         height: 0i16,
         number: 0,
     }; 1027];
-    let mut counter = ShiftArray::over(&mut entries);
     talk(
         &mut records,
-        &mut counter,
+        ShiftArray::over(&mut entries),
         &[
             ("O 3 3 1 000700070007000700070007000700070007", "ok\n"),
             ("S", "ok 0\n"),
@@ -260,14 +254,13 @@ fn ties_of_distance() -> Result<(), Fail> {
         height: 0i16,
         count: 0,
     }; 1024];
-    let mut entries = [Entry {
+    let mut entries = [shift_array::entry::Entry {
         height: 0i16,
         number: 0,
     }; 1027];
-    let mut counter = ShiftArray::over(&mut entries);
     talk(
         &mut records,
-        &mut counter,
+        ShiftArray::over(&mut entries),
         &[
             ("O 3 3 1 000000010000000100000001000000010000", "ok\n"),
             ("N 1 1", "1 0 1\n"),
@@ -295,14 +288,13 @@ fn below_sea_level() -> Result<(), Fail> {
         height: 0i16,
         count: 0,
     }; 1024];
-    let mut entries = [Entry {
+    let mut entries = [shift_array::entry::Entry {
         height: 0i16,
         number: 0,
     }; 1027];
-    let mut counter = ShiftArray::over(&mut entries);
     talk(
         &mut records,
-        &mut counter,
+        ShiftArray::over(&mut entries),
         &[
             ("O 3 1 1 FFFF80007FFF", "ok\n"),
             ("S", "ok 2\n"),
@@ -323,14 +315,13 @@ fn denied_calls_between() -> Result<(), Fail> {
         height: 0i16,
         count: 0,
     }; 6];
-    let mut entries = [Entry {
+    let mut entries = [shift_array::entry::Entry {
         height: 0i16,
         number: 0,
     }; 9];
-    let mut counter = ShiftArray::over(&mut entries);
     talk(
         &mut records,
-        &mut counter,
+        ShiftArray::over(&mut entries),
         &[
             ("O 3 2 1 000500070007000300050009", "ok\n"),
             ("S", "ok 4\n"),
@@ -365,14 +356,13 @@ fn no_form() -> Result<(), Fail> {
         height: 0i16,
         count: 0,
     }; 6];
-    let mut entries = [Entry {
+    let mut entries = [shift_array::entry::Entry {
         height: 0i16,
         number: 0,
     }; 9];
-    let mut counter = ShiftArray::over(&mut entries);
     talk(
         &mut records,
-        &mut counter,
+        ShiftArray::over(&mut entries),
         &[
             ("", "no 13\n"),
             (" ", "no 13\n"),
@@ -413,8 +403,15 @@ fn no_form() -> Result<(), Fail> {
             ("K F A", "no 13\n"),
             ("K X A", "no 13\n"),
             ("K W B", "no 13\n"),
-            ("H 0 0", "no 13\n"),
-            ("A 0 0 0001", "no 13\n"),
+            ("H 0", "no 13\n"),
+            ("H 0 0 0", "no 13\n"),
+            ("A", "no 13\n"),
+            ("A 0 0", "no 13\n"),
+            ("A 0 0 ", "no 13\n"),
+            ("A 0 0 0", "no 13\n"),
+            ("A 0 0 000g", "no 13\n"),
+            ("A 0 0 0001 0002", "no 13\n"),
+            ("A 0  0 0001", "no 13\n"),
             ("Z", "no 13\n"),
             ("?", "no 13\n"),
         ],
@@ -428,14 +425,13 @@ fn leading_zeros() -> Result<(), Fail> {
         height: 0i16,
         count: 0,
     }; 6];
-    let mut entries = [Entry {
+    let mut entries = [shift_array::entry::Entry {
         height: 0i16,
         number: 0,
     }; 9];
-    let mut counter = ShiftArray::over(&mut entries);
     talk(
         &mut records,
-        &mut counter,
+        ShiftArray::over(&mut entries),
         &[
             ("O 0000003 02 001 000500070007000300050009", "ok\n"),
             ("T 0000000 0000000", "no 9\n"),
@@ -444,6 +440,417 @@ fn leading_zeros() -> Result<(), Fail> {
             ("N 1 0000000", "2 1 2\n"),
             ("T 9999999 0", "no 4\n"),
             ("T 0 9999999", "no 4\n"),
+        ],
+    )
+}
+
+// The worked plan, counted by a finger list.
+#[test]
+fn finger_list_under_the_layer() -> Result<(), Fail> {
+    let mut records = [CellRecord {
+        height: 0i16,
+        count: 0,
+    }; 6];
+    let mut entries = [finger_list::entry::Entry {
+        height: 0i16,
+        number: 0,
+        next: 0,
+        prev: 0,
+    }; 9];
+    talk(
+        &mut records,
+        FingerList::over(&mut entries),
+        &[
+            ("O 3 2 1 000500070007000300050009", "ok\n"),
+            ("T 0 0", "no 9\n"),
+            ("S", "ok 4\n"),
+            ("S", "ok 6\n"),
+            ("S", "no 7\n"),
+            ("T 0 0", "3 4\n"),
+            ("T 1 0", "5 6\n"),
+            ("T 2 0", "3 4\n"),
+            ("T 0 1", "1 4\n"),
+            ("T 1 1", "3 6\n"),
+            ("T 2 1", "4 4\n"),
+            ("H 1 0", "555\n"),
+            ("H 0 0", "333\n"),
+            ("N 1 0", "2 1 2\n"),
+            ("N 2 1", "no higher ground\n"),
+            ("A 0 1 0009", "ok\n"),
+            ("T 0 0", "2 4\n"),
+            ("T 1 0", "4 6\n"),
+            ("T 2 0", "3 4\n"),
+            ("T 0 1", "4 4\n"),
+            ("T 1 1", "2 6\n"),
+            ("T 2 1", "4 4\n"),
+            ("S", "no 7\n"),
+        ],
+    )
+}
+
+// Ground that goes up and down, counted by a finger list.
+#[test]
+fn broken_ground() -> Result<(), Fail> {
+    let mut records = [CellRecord {
+        height: 0i16,
+        count: 0,
+    }; 1024];
+    let mut entries = [finger_list::entry::Entry {
+        height: 0i16,
+        number: 0,
+        next: 0,
+        prev: 0,
+    }; 1027];
+    talk(
+        &mut records,
+        FingerList::over(&mut entries),
+        &[
+            (
+                "O 6 5 2 000200010000FFFFFFFEFFFDFFFCFFFBFFFAFFF9FFF8FFF70009000800070006000500040003000200010000FFFFFFFEFFFDFFFCFFFBFFFAFFF9FFF8",
+                "ok\n",
+            ),
+            ("S", "ok 98\n"),
+            ("S", "ok 139\n"),
+            ("S", "ok 192\n"),
+            ("S", "ok 136\n"),
+            ("S", "ok 68\n"),
+            ("S", "no 7\n"),
+            ("T 0 0", "6 9\n"),
+            ("T 1 0", "7 12\n"),
+            ("T 2 0", "8 15\n"),
+            ("T 3 0", "8 15\n"),
+            ("T 4 0", "6 12\n"),
+            ("T 5 0", "4 9\n"),
+            ("T 0 1", "3 12\n"),
+            ("T 1 1", "3 16\n"),
+            ("T 2 1", "3 20\n"),
+            ("T 3 1", "3 20\n"),
+            ("T 4 1", "2 16\n"),
+            ("T 5 1", "1 12\n"),
+            ("T 0 2", "15 15\n"),
+            ("T 1 2", "19 20\n"),
+            ("T 2 2", "23 25\n"),
+            ("T 3 2", "23 25\n"),
+            ("T 4 2", "18 20\n"),
+            ("T 5 2", "13 15\n"),
+            ("T 0 3", "9 12\n"),
+            ("T 1 3", "11 16\n"),
+            ("T 2 3", "13 20\n"),
+            ("T 3 3", "13 20\n"),
+            ("T 4 3", "10 16\n"),
+            ("T 5 3", "7 12\n"),
+            ("T 0 4", "3 9\n"),
+            ("T 1 4", "3 12\n"),
+            ("T 2 4", "3 15\n"),
+            ("T 3 4", "3 15\n"),
+            ("T 4 4", "2 12\n"),
+            ("T 5 4", "1 9\n"),
+        ],
+    )
+}
+
+// Two heights far apart.
+#[test]
+fn cliffs() -> Result<(), Fail> {
+    let mut records = [CellRecord {
+        height: 0i16,
+        count: 0,
+    }; 1024];
+    let mut entries = [finger_list::entry::Entry {
+        height: 0i16,
+        number: 0,
+        next: 0,
+        prev: 0,
+    }; 1027];
+    talk(
+        &mut records,
+        FingerList::over(&mut entries),
+        &[
+            (
+                "O 5 4 1 80007FFF80007FFF800080007FFF80007FFF800080007FFF80007FFF800080007FFF80007FFF8000",
+                "ok\n",
+            ),
+            ("S", "ok 9\n"),
+            ("S", "ok 9\n"),
+            ("S", "ok 9\n"),
+            ("S", "ok 9\n"),
+            ("T 0 0", "2 4\n"),
+            ("T 1 0", "6 6\n"),
+            ("T 2 0", "2 6\n"),
+            ("T 3 0", "6 6\n"),
+            ("T 4 0", "2 4\n"),
+            ("T 0 1", "3 6\n"),
+            ("T 1 1", "9 9\n"),
+            ("T 2 1", "3 9\n"),
+            ("T 3 1", "9 9\n"),
+            ("T 4 1", "3 6\n"),
+            ("T 0 2", "3 6\n"),
+            ("T 1 2", "9 9\n"),
+            ("T 2 2", "3 9\n"),
+            ("T 3 2", "9 9\n"),
+            ("T 4 2", "3 6\n"),
+            ("T 0 3", "2 4\n"),
+            ("T 1 3", "6 6\n"),
+            ("T 2 3", "2 6\n"),
+            ("T 3 3", "6 6\n"),
+            ("T 4 3", "2 4\n"),
+            ("A 2 2 0000", "ok\n"),
+            ("T 0 0", "2 4\n"),
+            ("T 1 0", "6 6\n"),
+            ("T 2 0", "2 6\n"),
+            ("T 3 0", "6 6\n"),
+            ("T 4 0", "2 4\n"),
+            ("T 0 1", "3 6\n"),
+            ("T 1 1", "9 9\n"),
+            ("T 2 1", "2 9\n"),
+            ("T 3 1", "9 9\n"),
+            ("T 4 1", "3 6\n"),
+            ("T 0 2", "3 6\n"),
+            ("T 1 2", "9 9\n"),
+            ("T 2 2", "3 9\n"),
+            ("T 3 2", "9 9\n"),
+            ("T 4 2", "3 6\n"),
+            ("T 0 3", "2 4\n"),
+            ("T 1 3", "6 6\n"),
+            ("T 2 3", "1 6\n"),
+            ("T 3 3", "6 6\n"),
+            ("T 4 3", "2 4\n"),
+        ],
+    )
+}
+
+// Heights altered upward and downward in unswept, half swept and swept plans, corners too.
+#[test]
+fn alter_before_between_and_after() -> Result<(), Fail> {
+    let mut records = [CellRecord {
+        height: 0i16,
+        count: 0,
+    }; 1024];
+    let mut entries = [shift_array::entry::Entry {
+        height: 0i16,
+        number: 0,
+    }; 1027];
+    talk(
+        &mut records,
+        ShiftArray::over(&mut entries),
+        &[
+            ("A 0 0 0001", "no 1\n"),
+            (
+                "O 4 4 1 0000000100020003000400050006000700080009000A000B000C000D000E000F",
+                "ok\n",
+            ),
+            ("A 1 1 0064", "ok\n"),
+            ("S", "ok 20\n"),
+            ("S", "ok 48\n"),
+            ("T 0 0", "1 4\n"),
+            ("T 1 0", "2 6\n"),
+            ("T 2 0", "2 6\n"),
+            ("T 3 0", "2 4\n"),
+            ("T 0 1", "3 6\n"),
+            ("T 1 1", "9 9\n"),
+            ("T 2 1", "4 9\n"),
+            ("T 3 1", "4 6\n"),
+            ("A 1 1 0000", "ok\n"),
+            ("T 0 0", "2 4\n"),
+            ("T 1 0", "3 6\n"),
+            ("T 2 0", "3 6\n"),
+            ("T 3 0", "2 4\n"),
+            ("T 0 1", "4 6\n"),
+            ("T 1 1", "2 9\n"),
+            ("T 2 1", "5 9\n"),
+            ("T 3 1", "4 6\n"),
+            ("A 2 2 FFFF", "ok\n"),
+            ("T 0 0", "2 4\n"),
+            ("T 1 0", "3 6\n"),
+            ("T 2 0", "3 6\n"),
+            ("T 3 0", "2 4\n"),
+            ("T 0 1", "4 6\n"),
+            ("T 1 1", "3 9\n"),
+            ("T 2 1", "6 9\n"),
+            ("T 3 1", "5 6\n"),
+            ("S", "ok 48\n"),
+            ("S", "ok 20\n"),
+            ("T 0 0", "2 4\n"),
+            ("T 1 0", "3 6\n"),
+            ("T 2 0", "3 6\n"),
+            ("T 3 0", "2 4\n"),
+            ("T 0 1", "4 6\n"),
+            ("T 1 1", "3 9\n"),
+            ("T 2 1", "6 9\n"),
+            ("T 3 1", "5 6\n"),
+            ("T 0 2", "3 6\n"),
+            ("T 1 2", "6 9\n"),
+            ("T 2 2", "1 9\n"),
+            ("T 3 2", "4 6\n"),
+            ("T 0 3", "3 4\n"),
+            ("T 1 3", "5 6\n"),
+            ("T 2 3", "5 6\n"),
+            ("T 3 3", "4 4\n"),
+            ("A 0 0 0064", "ok\n"),
+            ("T 0 0", "4 4\n"),
+            ("T 1 0", "2 6\n"),
+            ("T 2 0", "3 6\n"),
+            ("T 3 0", "2 4\n"),
+            ("T 0 1", "3 6\n"),
+            ("T 1 1", "2 9\n"),
+            ("T 2 1", "6 9\n"),
+            ("T 3 1", "5 6\n"),
+            ("T 0 2", "3 6\n"),
+            ("T 1 2", "6 9\n"),
+            ("T 2 2", "1 9\n"),
+            ("T 3 2", "4 6\n"),
+            ("T 0 3", "3 4\n"),
+            ("T 1 3", "5 6\n"),
+            ("T 2 3", "5 6\n"),
+            ("T 3 3", "4 4\n"),
+            ("A 3 3 8000", "ok\n"),
+            ("A 0 3 7FFF", "ok\n"),
+            ("A 3 0 0005", "ok\n"),
+            ("T 0 0", "4 4\n"),
+            ("T 1 0", "2 6\n"),
+            ("T 2 0", "3 6\n"),
+            ("T 3 0", "2 4\n"),
+            ("T 0 1", "3 6\n"),
+            ("T 1 1", "2 9\n"),
+            ("T 2 1", "6 9\n"),
+            ("T 3 1", "5 6\n"),
+            ("T 0 2", "3 6\n"),
+            ("T 1 2", "6 9\n"),
+            ("T 2 2", "2 9\n"),
+            ("T 3 2", "5 6\n"),
+            ("T 0 3", "4 4\n"),
+            ("T 1 3", "4 6\n"),
+            ("T 2 3", "6 6\n"),
+            ("T 3 3", "1 4\n"),
+        ],
+    )
+}
+
+// A cell altered to the same height, to a level one, and back.
+#[test]
+fn alter_to_a_level_height() -> Result<(), Fail> {
+    let mut records = [CellRecord {
+        height: 0i16,
+        count: 0,
+    }; 1024];
+    let mut entries = [shift_array::entry::Entry {
+        height: 0i16,
+        number: 0,
+    }; 1027];
+    talk(
+        &mut records,
+        ShiftArray::over(&mut entries),
+        &[
+            ("O 3 3 2 000100020003000200020002000300020001", "ok\n"),
+            ("S", "ok 0\n"),
+            ("S", "ok 0\n"),
+            ("S", "ok 0\n"),
+            ("T 0 0", "2 9\n"),
+            ("T 1 0", "7 9\n"),
+            ("T 2 0", "9 9\n"),
+            ("T 0 1", "7 9\n"),
+            ("T 1 1", "7 9\n"),
+            ("T 2 1", "7 9\n"),
+            ("T 0 2", "9 9\n"),
+            ("T 1 2", "7 9\n"),
+            ("T 2 2", "2 9\n"),
+            ("A 1 1 0002", "ok\n"),
+            ("T 0 0", "2 9\n"),
+            ("T 1 0", "7 9\n"),
+            ("T 2 0", "9 9\n"),
+            ("T 0 1", "7 9\n"),
+            ("T 1 1", "7 9\n"),
+            ("T 2 1", "7 9\n"),
+            ("T 0 2", "9 9\n"),
+            ("T 1 2", "7 9\n"),
+            ("T 2 2", "2 9\n"),
+            ("A 0 0 0002", "ok\n"),
+            ("T 0 0", "7 9\n"),
+            ("T 1 0", "7 9\n"),
+            ("T 2 0", "9 9\n"),
+            ("T 0 1", "7 9\n"),
+            ("T 1 1", "7 9\n"),
+            ("T 2 1", "7 9\n"),
+            ("T 0 2", "9 9\n"),
+            ("T 1 2", "7 9\n"),
+            ("T 2 2", "1 9\n"),
+            ("A 0 0 0001", "ok\n"),
+            ("T 0 0", "2 9\n"),
+            ("T 1 0", "7 9\n"),
+            ("T 2 0", "9 9\n"),
+            ("T 0 1", "7 9\n"),
+            ("T 1 1", "7 9\n"),
+            ("T 2 1", "7 9\n"),
+            ("T 0 2", "9 9\n"),
+            ("T 1 2", "7 9\n"),
+            ("T 2 2", "2 9\n"),
+        ],
+    )
+}
+
+// Denied alters and shares leave the counts.
+#[test]
+fn denied_alters() -> Result<(), Fail> {
+    let mut records = [CellRecord {
+        height: 0i16,
+        count: 0,
+    }; 6];
+    let mut entries = [shift_array::entry::Entry {
+        height: 0i16,
+        number: 0,
+    }; 9];
+    talk(
+        &mut records,
+        ShiftArray::over(&mut entries),
+        &[
+            ("O 3 2 1 000500070007000300050009", "ok\n"),
+            ("S", "ok 4\n"),
+            ("A 3 0 0001", "no 4\n"),
+            ("A 0 2 0001", "no 4\n"),
+            ("A 0 0 00", "no 5\n"),
+            ("A 0 0 000001", "no 5\n"),
+            ("A 0 0 0001000200", "no 5\n"),
+            ("T 0 0", "3 4\n"),
+            ("T 1 0", "5 6\n"),
+            ("H 3 0", "no 4\n"),
+            ("H 0 1", "no 9\n"),
+            ("H 0 0", "333\n"),
+        ],
+    )
+}
+
+// Shares of the full window, rounded down.
+#[test]
+fn shares() -> Result<(), Fail> {
+    let mut records = [CellRecord {
+        height: 0i16,
+        count: 0,
+    }; 1024];
+    let mut entries = [shift_array::entry::Entry {
+        height: 0i16,
+        number: 0,
+    }; 1027];
+    talk(
+        &mut records,
+        ShiftArray::over(&mut entries),
+        &[
+            ("H 0 0", "no 1\n"),
+            ("O 3 2 1 000500070007000300050009", "ok\n"),
+            ("H 0 0", "no 9\n"),
+            ("S", "ok 4\n"),
+            ("S", "ok 4\n"),
+            ("H 0 0", "333\n"),
+            ("H 1 0", "555\n"),
+            ("H 2 0", "333\n"),
+            ("H 0 1", "111\n"),
+            ("H 1 1", "333\n"),
+            ("H 2 1", "444\n"),
+            ("O 1 1 255 0000", "ok\n"),
+            ("S", "ok 0\n"),
+            ("H 0 0", "0\n"),
+            ("O 2 1 7 00000000", "ok\n"),
+            ("S", "ok 0\n"),
+            ("H 0 0", "8\n"),
         ],
     )
 }

@@ -8,7 +8,7 @@ ghost use Rattle.heights.specs.Meaning.{storage};
 ghost use Rattle.siting_box.specs.Boxes.{boxContents};
 ghost use Rattle.siting_box.specs.Contents.{contents, Counted};
 ghost use Rattle.siting_box.specs.Denials.{deniedBy, firstNo};
-ghost use Rattle.siting_box.specs.Calls.{openQuestions, OpenLeaves, nearestQuestions, NearestAnswer, tellQuestions, TellAnswer, sweepQuestions, SweepLeaves};
+ghost use Rattle.siting_box.specs.Calls.{openQuestions, OpenLeaves, alterQuestions, AlterLeaves, nearestQuestions, NearestAnswer, tellQuestions, TellAnswer, shareQuestions, ShareAnswer, sweepQuestions, SweepLeaves};
 use super::SitingBox;
 use crate::denial::Denial;
 use crate::parts::Parts;
@@ -49,6 +49,16 @@ impl<'a, H: HeightKind> SitingBox<'a, H> {
         self.parts.open(width, rows, radius, bytes)
     }
 
+    // Gives the cell in column x of row y another stored height; the counts already made stay the defined ones.
+    pub fn alter(&mut self, x: usize, y: usize, bytes: &[u8]) -> Result<(), Denial<H::Cause>>
+        ensures denial { λ r. ⌜ deniedBy r ≡ firstNo (alterQuestions (storage H·HeightKind) (boxContents (now (self .entry))) x y (now (bytes .entry))) ⌝ }
+        ensures leaves { λ r. ⌜ AlterLeaves (storage H·HeightKind) (H·Height .notHigher) x y (now (bytes .entry)) (boxContents (now (self .entry))) (boxContents (now (self .exit))) r ⌝ }
+        ensures counts { λ _. ⌜ (Counted (H·Height .notHigher) (boxContents (now (self .entry))) → Counted (H·Height .notHigher) (boxContents (now (self .exit)))) ⌝ }
+        ensures lent { λ _. ⌜ name (now (self .exit) .parts .records) ≡ name (now (self .entry) .parts .records) ⌝ }
+    {
+        self.parts.alter(x, y, bytes)
+    }
+
     // Sweeps the next row with a counter, which records the counts of that row, and answers the counter's mileage.
     pub fn sweep<C: Counter<Kind = H>>(&mut self, counter: &mut C) -> Result<u64, Denial<H::Cause>>
         ensures denial { λ r. ⌜ deniedBy r ≡ firstNo (sweepQuestions (boxContents (now (self .entry))) (C·Counter .view (now (counter .entry)) .places)) ⌝ }
@@ -66,6 +76,14 @@ impl<'a, H: HeightKind> SitingBox<'a, H> {
         ensures answer { λ r. ⌜ TellAnswer (H·Height .notHigher) (boxContents (now (self .entry))) x y r ⌝ }
     {
         self.parts.tell(x, y)
+    }
+
+    // The share of the cell in column x of row y: its count in thousandths of the full window, rounded down.
+    pub fn share(&self, x: usize, y: usize) -> Result<u64, Denial<H::Cause>>
+        ensures denial { λ r. ⌜ deniedBy r ≡ firstNo (shareQuestions (boxContents (now (self .entry))) x y) ⌝ }
+        ensures answer { λ r. ⌜ ShareAnswer (H·Height .notHigher) (boxContents (now (self .entry))) x y r ⌝ }
+    {
+        self.parts.share(x, y)
     }
 
     // The nearest cell that is strictly higher than the one in column x of row y, and their squared distance.

@@ -23,3 +23,11 @@ returns-in-T c =
 pub returns-in-N : need.returns-in-N
 returns-in-N c =
     spells-from-tail (c .args .line .now) 78 _ _ (first-and-rest (c .args .line .now) 78 (omega arith) (c .in-N .is)) (c .nearest-command .ensures)
+
+pub returns-in-A : need.returns-in-A
+returns-in-A c =
+    spells-from-tail (c .args .line .now) 65 _ _ (first-and-rest (c .args .line .now) 65 (omega arith) (c .in-A .is)) (c .alter-command .ensures)
+
+pub returns-in-H : need.returns-in-H
+returns-in-H c =
+    spells-from-tail (c .args .line .now) 72 _ _ (first-and-rest (c .args .line .now) 72 (omega arith) (c .in-H .is)) (c .share-command .ensures)

@@ -1,0 +1,10 @@
+pub mod Weights
+pub mod Chains
+pub mod Adjacency
+pub mod Rewriting
+pub mod Distances
+pub mod Standing
+pub mod Growth
+pub mod Unlinking
+pub mod Shrinking
+pub mod Packed

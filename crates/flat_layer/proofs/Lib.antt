@@ -1,0 +1,4 @@
+pub mod Levels
+pub mod Corrections
+pub mod Asks
+pub mod Fingers
