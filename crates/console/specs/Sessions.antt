@@ -137,7 +137,7 @@ Decodable (command.Tell x y) = Unit {0}
 Decodable (command.Share x y) = Unit {0}
 Decodable (command.Nearest x y) = Unit {0}
 
--- the first accepted line chooses a kind and a counter; every other line before it is denied
+-- the line chooses this kind and this counter; none where it chooses none, as a line that is too long does
 abbrev pub ChosenBy : Option (List ℕ) → Option (KindLetter × CounterLetter) → Type 0
 ChosenBy None (Some choice) = ⊥
 ChosenBy None None = Unit {0}

@@ -1,7 +1,7 @@
 //! The layer and how it is made.
 ghost use mathlib.Core.Path.{_≡_};
 ghost use Rattle.flat_layer.specs.Layers.{layerView, LayerSound};
-ghost use Rattle.flat_layer.specs.Fingers.{byFingers};
+ghost use Rattle.counters.specs.Fingers.{byFingers};
 use crate::remembered::Remembered;
 use counters::counter::Counter;
 

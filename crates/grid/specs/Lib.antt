@@ -1,3 +1,4 @@
 pub mod Terrain
 pub mod Window
+pub mod Alike
 pub mod Nearest

@@ -1,4 +1,4 @@
-//! The layers of a box.
+//! The layers that ask questions of a call.
 // Which layer denies a call.
 #[derive(Clone, Copy)]
 pub enum Layer {

@@ -53,7 +53,8 @@ fn wait_for_choice(
     Ok(None)
 }
 
-// Answers lines from a box over these records, with the flat layer over this counter.
+// Answers lines from a box over these records, with the flat layer over this counter. The layer is made here, over any counter:
+// of a counter whose type is written out it would not be covered by the checker.
 fn serve_lines<H: HeightKind, C: Counter<Kind = H> + Drop>(
     rt: &LibcRuntime,
     reader: &mut Reader,

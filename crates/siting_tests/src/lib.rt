@@ -1,5 +1,7 @@
 //! Tests of height kinds, counters, box and console.
 #[cfg(test)]
+mod alterations;
+#[cfg(test)]
 mod counter_calls;
 #[cfg(test)]
 mod float_sessions;

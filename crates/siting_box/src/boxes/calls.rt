@@ -49,7 +49,7 @@ impl<'a, H: HeightKind> SitingBox<'a, H> {
         self.parts.open(width, rows, radius, bytes)
     }
 
-    // Gives the cell in column x of row y another stored height; the counts already made stay the defined ones.
+    // Gives the cell in column x of row y another stored height; counts that were the defined ones are so for the new heights.
     pub fn alter(&mut self, x: usize, y: usize, bytes: &[u8]) -> Result<(), Denial<H::Cause>>
         ensures denial { λ r. ⌜ deniedBy r ≡ firstNo (alterQuestions (storage H·HeightKind) (boxContents (now (self .entry))) x y (now (bytes .entry))) ⌝ }
         ensures leaves { λ r. ⌜ AlterLeaves (storage H·HeightKind) (H·Height .notHigher) x y (now (bytes .entry)) (boxContents (now (self .entry))) (boxContents (now (self .exit))) r ⌝ }

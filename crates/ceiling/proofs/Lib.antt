@@ -1,0 +1,10 @@
+pub mod Sums
+pub mod Steps
+pub mod Travel
+pub mod Walks
+pub mod Ways
+pub mod Limit
+pub mod Edges
+pub mod Ceiling
+pub mod Images
+pub mod Comparing

@@ -1,0 +1,2 @@
+pub mod Roughness
+pub mod Laws
