@@ -39,7 +39,8 @@ fn counts_stay_true() -> Result<(), Fail> {
     }; 28];
     let mut counter = ShiftArray::over(&mut entries);
     let mut siting = SitingBox::new(&mut records);
-    let mut heights = [0i16; 30];
+    let mut store = [0i16; 30];
+    let heights = &mut store[0..30];
     check(siting.open(6, 5, 2, &[0; 60]).is_ok())?;
     let mut seed: u32 = 11;
     for turn in 0..3000u32 {
@@ -57,7 +58,7 @@ fn counts_stay_true() -> Result<(), Fail> {
         let a = (seed / 4096 % 6) as usize;
         let b = (seed / 16777216 % 5) as usize;
         if let Ok(told) = siting.tell(a, b) {
-            check_eq(told.count, recount(&heights, 6, 5, 2, a, b))?;
+            check_eq(told.count, recount(heights, 6, 5, 2, a, b))?;
         }
     }
     check(siting.tell(5, 4).is_ok())

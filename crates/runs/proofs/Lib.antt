@@ -1,0 +1,10 @@
+pub mod Couples
+pub mod Readings
+pub mod Denials
+pub mod Boxes
+pub mod Grids
+pub mod Counts
+pub mod Cells
+pub mod Steps
+pub mod Runs
+pub mod Miles
