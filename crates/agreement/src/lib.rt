@@ -1,5 +1,7 @@
 //! Laws of two height grids, maybe with different types of height, whose cells compare alike: what is the same in both, and how
 //! such grids are made.
+#![tactic(auto)]
+
 ghost use Rattle.agreement.specs.Ranking.{CountsAgree, NearestAgree, TotalsAgree, AlikeAltered, AlikeOpened};
 
 use heights::height::Height;

@@ -1,4 +1,6 @@
 //! Laws about the steps of finger lists over the sweep of a height grid.
+#![tactic(auto)]
+
 ghost use Rattle.ceiling.specs.Laws.{EqualSteps, SameSteps, Ceiling};
 
 use heights::height::Height;

@@ -1,4 +1,5 @@
 //! The console's text: lines of bytes to commands, hexadecimal digits to bytes, answers to lines of bytes.
+#![tactic(auto)]
 
 mod answer_line;
 mod answers;

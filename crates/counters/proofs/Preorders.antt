@@ -1,5 +1,5 @@
 -- What the laws of an order of heights give: reflexivity, level heights, and the tests that do not tell level heights apart.
-use Rattle.std.proofs.Common.{◌≡◌, Bool, true, false, not, ◌⊎◌, sym, refl, ap, ◌∙◌, ⊎_elim}
+use Rattle.std.proofs.Common.{◌≡◌, Bool, true, false, not, sym, refl, ap, ◌∙◌, ⊎_elim}
 use Rattle.std.proofs.lemmas.Bool.{cases_Bool, both_ways, and_parts, and_from}
 use Rattle.heights.specs.Order.{Preorder, level}
 use Rattle.counters.specs.Held.{Blind, above, between}

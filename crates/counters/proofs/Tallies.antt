@@ -1,5 +1,5 @@
 -- Tallies of lists, and lists that hold the same heights.
-use Rattle.std.proofs.Common.{◌≡◌, ℕ, ◌+◌, ◌<◌, ◌≤◌, Bool, true, false, cond, List, [], ◌∷◌, ◌++◌, length, sym, refl, ap, ◌∙◌, arith}
+use Rattle.std.proofs.Common.{◌≡◌, ℕ, ◌<◌, Bool, true, cond, List, ◌∷◌, ◌++◌, length, sym, refl, ap, ◌∙◌, arith}
 use Rattle.heights.specs.Order.{Preorder, level}
 pub use Rattle.heights.proofs.Tallying.{tally_append, tally_always, tally_le_length}
 use Rattle.counters.specs.Held.{tally, Same, up_to, level_with}

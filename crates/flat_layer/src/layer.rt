@@ -17,7 +17,7 @@ impl<C: Counter> FlatLayer<C> {
     // A layer that remembers nothing over a counter, whatever that one did before.
     pub fn over(counter: C) -> FlatLayer<C>
         ensures view { layer_view C.Counter result ≡ C.Counter.view counter }
-        ensures sound { C.Counter.sound counter → LayerSound Kind-as-Height.not_higher C.Counter result }
+        ensures sound { C.Counter.sound counter → LayerSound C.Kind.Height.not_higher C.Counter result }
         ensures below { result.counter ≡ counter }
     {
         FlatLayer {

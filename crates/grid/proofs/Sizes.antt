@@ -8,7 +8,7 @@ use Rattle.heights.specs.Tally.{tally}
 use Rattle.heights.proofs.Tallying.{tally_append}
 use Rattle.grid.specs.declared.Place.{Place}
 use Rattle.grid.specs.Terrain.{Terrain, cells}
-use Rattle.grid.specs.Window.{near, reaches, window_size}
+use Rattle.grid.specs.Window.{near, window_size}
 
 -- counting one number more
 pub counting_more : (a n : ℕ) → range_with_len a (n + 1) ≡ range_with_len a n ++ ((a + n) ∷ [])

@@ -1,5 +1,5 @@
 -- Grids that rank alike.
-use Rattle.std.specs.Prelude.{◌≡◌, ℕ, ◌*◌, Bool, length}
+use Rattle.std.specs.Prelude.{◌≡◌, ◌*◌, Bool, length}
 use Rattle.grid.specs.declared.Place.{Place}
 use Rattle.grid.specs.Terrain.{Terrain, Inside, height_at}
 use Rattle.grid.specs.Window.{is_not_higher}

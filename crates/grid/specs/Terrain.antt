@@ -1,6 +1,6 @@
 -- A grid of heights. Column x runs from 0 from the west, row y from 0 from the north. Reading order goes row by row from the
 -- north, each row from the west.
-use Rattle.std.specs.Prelude.{ℕ, ◌+◌, ◌*◌, ◌<◌, Bool, cond, List, map, Some, None, Option, nat_lt}
+use Rattle.std.specs.Prelude.{ℕ, ◌+◌, ◌*◌, ◌<◌, cond, List, map, None, Option, nat_lt}
 use Rattle.std.specs.List.{range_with_len, flat_map, slice_get}
 use Rattle.grid.specs.declared.Place.{Place}
 use Rattle.grid.specs.declared.CellRecord.{CellRecord}

@@ -1,4 +1,5 @@
 //! Grids of heights: places, plans and cell records.
+#![tactic(auto)]
 // The longest side of a grid.
 pub const LONGEST_SIDE: usize = 1024;
 // The largest radius of a window.

@@ -1,5 +1,5 @@
 -- A height kind as a value: what specifications over any kind take in place of the type.
-use Rattle.std.specs.Prelude.{ℕ, Bool, List, Result}
+use Rattle.std.specs.Prelude.{ℕ, List, Result}
 use Rattle.heights.specs.declared.height.HeightKind.{Ghosts}
 
 -- the stored width, and what so many bytes read as

@@ -1,4 +1,6 @@
 //! Laws of the counts of a height grid: how they add up, and how large they are.
+#![tactic(auto)]
+
 ghost use Rattle.pairs.specs.Pairs.{CountsAddUp, CountsBounded, PairsInOrder};
 
 use heights::height::Height;

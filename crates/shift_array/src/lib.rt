@@ -1,4 +1,6 @@
 //! A shift array: a counter that keeps its distinct heights in order in one array over lent memory.
+#![tactic(auto)]
+
 pub mod array;
 mod change;
 mod count;

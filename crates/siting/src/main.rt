@@ -1,4 +1,6 @@
 //! The siting console: reads lines of standard input and answers each as it comes.
+#![tactic(auto)]
+
 mod reader;
 
 use console::line::Line;

@@ -1,4 +1,6 @@
 //! The siting box: one plan over lent cell records, and the calls on it.
+#![tactic(auto)]
+
 mod boxes;
 mod denial;
 mod parts;

@@ -1,4 +1,6 @@
 //! Tests of height kinds, counters, box and console.
+#![tactic(auto)]
+
 #[cfg(test)]
 mod alterations;
 #[cfg(test)]

@@ -1,4 +1,6 @@
 //! The sweep of one row of a height grid with any counter.
+#![tactic(auto)]
+
 mod band;
 mod column;
 pub mod row;

@@ -3,13 +3,13 @@ use Rattle.heights.specs.Patterns.{exponent}
 use Rattle.heights.proofs.Exponents.{no_nan_bits, bits_back}
 use Rattle.heights.proofs.finite.Finite.from_pattern.Goals as goal
 
-pub float-from-bits-result : goal.float-from-bits-result
-float-from-bits-result c = no_nan_bits _ (omega arith)
+pub float_from_bits-result : goal.float_from_bits-result
+float_from_bits-result c = no_nan_bits _ (omega arith)
 
-pub invariant-of-result : goal.invariant-of-result
-invariant-of-result c =
+pub invariant_of-result : goal.invariant_of-result
+invariant_of-result c =
     let low : exponent c.args.pattern < 255 = omega arith in
-    (rw (bits_back c.args.pattern c.ranges.pattern.fits low) low, tt)
+    record { finite = rw (bits_back c.args.pattern c.ranges.pattern.fits low) low }
 
 pub returns : goal.returns
 returns c =
