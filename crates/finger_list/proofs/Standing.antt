@@ -1,6 +1,6 @@
 -- Where heights stand when an entry comes in, goes out, or gets another name.
 use Rattle.std.proofs.Common.{◌≡◌, ℕ, ◌<◌, Bool, true, false, cond, not, eqb, ◌⊎◌, sym, ap, ◌∙◌, subst, ⊎_elim, arith}
-use Rattle.std.proofs.lemmas.Bool.{both_ways, cases_eq, eq-eqb, ne_eqb, not_false}
+use Rattle.std.proofs.lemmas.Bool.{both_ways, cases_eq, eq-eqb, ne_eqb, not-false}
 use Rattle.finger_list.specs.Linking.{not_past, onwards, Neighbours, Chain, Stands}
 use Rattle.heights.specs.Order.{Preorder}
 use Rattle.counters.proofs.Preorders.{equal_tests, reflexive, other_way}
@@ -56,7 +56,7 @@ out_same {le = le} o H N L c r a pos lr cut j pj lj ne =
     let s : le (H r) (H j) ≡ not (le (H j) (H r)) = strict o (H r) (H j) (λ q₁ q₂. ne (c.apart j r pj lj pos lr q₂ q₁)) in
     let e : not (le (H j) (H r)) ≡ not (not_past le H a (H j)) = sym s ∙ sym (ow_at le H r (H j) rz) ∙ cut j pj lj in
     let flip : (x y : Bool) → not x ≡ not y → y ≡ x
-    = λ x y q. equal_tests _ _ (λ t. not_false _ (q ∙ ap not t)) (λ t. not_false _ (sym q ∙ ap not t)) in
+    = λ x y q. equal_tests _ _ (λ t. not-false _ (q ∙ ap not t)) (λ t. not-false _ (sym q ∙ ap not t)) in
     flip (le (H j) (H r)) (not_past le H a (H j)) e ∙ sym (np_at le H r (H j) rz)
 
 -- without r, whose neighbours are linked to each other, the list stays in order

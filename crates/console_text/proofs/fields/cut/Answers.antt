@@ -7,13 +7,13 @@ use Rattle.console_text.proofs.fields.cut.Goals as goal
 pub returns-then-byte-eq32 : goal.returns-then-byte-eq32
 returns-then-byte-eq32 c =
     let w = word_at c.args.text.now c.loop-i.i c.loop-i.invariant (omega arith) c.if-byte-eq32.true in
-    record { front = c.split-at.ensures.front ∙ sym w.0; back = c.split-at.ensures.back ∙ sym w.1 }
+    record { front = c.split_at.ensures.front ∙ sym w.0; back = c.split_at.ensures.back ∙ sym w.1 }
 
 pub returns : goal.returns
 returns c =
     let text = c.args.text.now in
     let w = word_all text (λ k h. c.loop-i.invariant k (omega arith)) in
     record {
-      front = c.split-at-2.ensures.front ∙ take_all (length text) text (omega arith) ∙ sym w.0;
-      back = c.split-at-2.ensures.back ∙ drop_all (length text) text (omega arith) ∙ sym w.1;
+      front = c.split_at-2.ensures.front ∙ take_all (length text) text (omega arith) ∙ sym w.0;
+      back = c.split_at-2.ensures.back ∙ drop_all (length text) text (omega arith) ∙ sym w.1;
     }

@@ -10,10 +10,10 @@ loop-i-preserved c =
     let digits = c.args.digits.now in
     let out = c.args.out.now in
     let i = c.loop-i.i in
-    let written = 16 * c.hex-value-high.result + c.hex-value-low.result in
+    let written = 16 * c.hex_value-high.result + c.hex_value-low.result in
     let byte = get_or_bytes_of digits i (omega arith) in
     let long = length_bytes_of digits in
-    let same : written ≡ get_or (bytes_of digits) i 0 = omega (arith, c.hex-value-high.ensures.value, c.hex-value-low.ensures.value) in
+    let same : written ≡ get_or (bytes_of digits) i 0 = omega (arith, c.hex_value-high.ensures.value, c.hex_value-low.ensures.value) in
     ap (λ o. set o i written) c.loop-i.invariant
     ∙ ap (λ b. set (take i (bytes_of digits) ++ drop i out) i b) same
     ∙ front_more out (bytes_of digits) i (omega arith) (omega arith)

@@ -11,18 +11,18 @@ returns c =
     let all = four_bytes text four in
     let first : get_or text 0 0 ≡ 32 = search rules in
     let third : get_or text 2 0 ≡ 32 = search rules in
-    let kind : kind_byte c.in-ok-kind.kind ≡ get_or text 1 0 = c.in-ok-kind.ensures in
-    let counter : counter_byte c.in-ok-counter.counter ≡ get_or text 3 0 = c.in-ok-counter.ensures in
+    let kind : kind_byte c.in_ok-kind.kind ≡ get_or text 1 0 = c.in_ok-kind.ensures in
+    let counter : counter_byte c.in_ok-counter.counter ≡ get_or text 3 0 = c.in_ok-counter.ensures in
     (refl, cc)
 
-pub returns-in-err-kind : goal.returns-in-err-kind
-returns-in-err-kind c =
+pub returns-in_err-kind : goal.returns-in_err-kind
+returns-in_err-kind c =
     let text = c.args.text.now in
-    let none = only_choose text (λ kind counter e. c.in-err-kind.ensures kind (sym (ap (λ t. get_or t 1 0) e))) in
-    rw c.from-residual.ensures none
+    let none = only_choose text (λ kind counter e. c.in_err-kind.ensures kind (sym (ap (λ t. get_or t 1 0) e))) in
+    rw c.from_residual.ensures none
 
-pub returns-in-err-counter : goal.returns-in-err-counter
-returns-in-err-counter c =
+pub returns-in_err-counter : goal.returns-in_err-counter
+returns-in_err-counter c =
     let text = c.args.text.now in
-    let none = only_choose text (λ kind counter e. c.in-err-counter.ensures counter (sym (ap (λ t. get_or t 3 0) e))) in
-    rw c.from-residual-in-err-counter.ensures none
+    let none = only_choose text (λ kind counter e. c.in_err-counter.ensures counter (sym (ap (λ t. get_or t 3 0) e))) in
+    rw c.from_residual-in_err-counter.ensures none

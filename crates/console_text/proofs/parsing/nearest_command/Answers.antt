@@ -3,10 +3,10 @@ use Rattle.std.proofs.Common.{refl}
 use Rattle.console_text.proofs.Forms.{only_nearest}
 use Rattle.console_text.proofs.parsing.nearest_command.Goals as goal
 
-pub returns-in-err-x : goal.returns-in-err-x
-returns-in-err-x c =
-    let none = only_nearest c.args.text.now c.in-err-x.ensures in
-    rw c.from-residual.ensures none
+pub returns-in_err-x : goal.returns-in_err-x
+returns-in_err-x c =
+    let none = only_nearest c.args.text.now c.in_err-x.ensures in
+    rw c.from_residual.ensures none
 
 pub returns : goal.returns
-returns c = (refl, c.in-ok-x.ensures)
+returns c = (refl, c.in_ok-x.ensures)

@@ -4,10 +4,10 @@ use Rattle.std.proofs.lemmas.List.{nil_from_length}
 use Rattle.console_text.proofs.Forms.{only_sweep}
 use Rattle.console_text.proofs.parsing.sweep_command.Goals as goal
 
-pub returns-then-is-empty : goal.returns-then-is-empty
-returns-then-is-empty c =
-    (refl, nil_from_length c.args.text.now (true-eqb (length c.args.text.now) 0 c.if-is-empty.ensures))
+pub returns-then-is_empty : goal.returns-then-is_empty
+returns-then-is_empty c =
+    (refl, nil_from_length c.args.text.now (true-eqb (length c.args.text.now) 0 c.if-is_empty.ensures))
 
-pub returns-else-is-empty : goal.returns-else-is-empty
-returns-else-is-empty c =
-    only_sweep c.args.text.now (λ e. false-eqb (length c.args.text.now) 0 c.if-is-empty.ensures (ap length e))
+pub returns-else-is_empty : goal.returns-else-is_empty
+returns-else-is_empty c =
+    only_sweep c.args.text.now (λ e. false-eqb (length c.args.text.now) 0 c.if-is_empty.ensures (ap length e))

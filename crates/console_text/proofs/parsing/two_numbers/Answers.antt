@@ -7,30 +7,30 @@ use Rattle.console_text.proofs.Numerics.{first_field, next_fields}
 use Rattle.console_text.proofs.Forms.{two_numbers}
 use Rattle.console_text.proofs.parsing.two_numbers.Goals as goal
 
-pub returns-in-err-first : goal.returns-in-err-first
-returns-in-err-first c =
+pub returns-in_err-first : goal.returns-in_err-first
+returns-in_err-first c =
     let none : (x y : ℕ) → TwoNumbers c.args.text.now x y → ⊥ =
-    λ x y t. c.in-err-first.ensures x (after_spaces (t.b ∷ [])) (first_field _ t.a (t.b ∷ []) x t.text_is t.first)
+    λ x y t. c.in_err-first.ensures x (after_spaces (t.b ∷ [])) (first_field _ t.a (t.b ∷ []) x t.text_is t.first)
     in
-    rw c.from-residual.ensures none
+    rw c.from_residual.ensures none
 
-pub returns-in-err-second : goal.returns-in-err-second
-returns-in-err-second c =
-    let p = c.in-ok-first.ensures in
+pub returns-in_err-second : goal.returns-in_err-second
+returns-in_err-second c =
+    let p = c.in_ok-first.ensures in
     let none : (x y : ℕ) → TwoNumbers c.args.text.now x y → ⊥ =
-    λ x y t. c.in-err-second.ensures y [] (first_field _ t.b [] y (next_fields _ _ _ t.a (t.b ∷ []) x p t.text_is t.first) t.second)
+    λ x y t. c.in_err-second.ensures y [] (first_field _ t.b [] y (next_fields _ _ _ t.a (t.b ∷ []) x p t.text_is t.first) t.second)
     in
-    rw c.from-residual-in-err-second.ensures none
+    rw c.from_residual-in_err-second.ensures none
 
-pub returns-then-is-empty : goal.returns-then-is-empty
-returns-then-is-empty c =
-    two_numbers _ _ _ _ _ c.in-ok-first.ensures c.in-ok-second.ensures (nil_from_length _ (true-eqb _ 0 c.if-is-empty.ensures))
+pub returns-then-is_empty : goal.returns-then-is_empty
+returns-then-is_empty c =
+    two_numbers _ _ _ _ _ c.in_ok-first.ensures c.in_ok-second.ensures (nil_from_length _ (true-eqb _ 0 c.if-is_empty.ensures))
 
-pub returns-else-is-empty : goal.returns-else-is-empty
-returns-else-is-empty c =
-    let p = c.in-ok-first.ensures in
-    let q = c.in-ok-second.ensures in
+pub returns-else-is_empty : goal.returns-else-is_empty
+returns-else-is_empty c =
+    let p = c.in_ok-first.ensures in
+    let q = c.in_ok-second.ensures in
     λ x y t.
     let rest = next_fields _ _ _ t.a (t.b ∷ []) x p t.text_is t.first in
     let none = next_fields _ _ _ t.b [] y q rest t.second in
-    false-eqb _ 0 c.if-is-empty.ensures (ap length none)
+    false-eqb _ 0 c.if-is_empty.ensures (ap length none)

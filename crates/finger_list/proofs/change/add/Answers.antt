@@ -4,15 +4,15 @@ use Rattle.finger_list.specs.declared.entry.Entry.{Entry}
 use Rattle.finger_list.proofs.Growth.{grown_bump, grown_new, number_small}
 use Rattle.finger_list.specs.Entries.{height_at}
 use Rattle.finger_list.proofs.change.add.Goals as goal
-use Rattle.finger_list.proofs.change.add.Goals.{then-from-ne0+else-is-not-higher, else-from-ne0}
+use Rattle.finger_list.proofs.change.add.Goals.{then-from-ne0+else-is_not_higher, else-from-ne0}
 
-pub returns-then-is-not-higher : goal.returns-then-is-not-higher
-returns-then-is-not-higher g c =
+pub returns-then-is_not_higher : goal.returns-then-is_not_higher
+returns-then-is_not_higher g c =
     let e = c.index-entries-from.result in
     let es = c.args.entries.now in
     grown_bump g.met.H.Height.ordered es c.args.used c.args.from c.args.height e c.requires.linked (omega arith) (omega arith) c.index-entries-from.is
     (omega (arith, number_small es c.args.used c.args.from e c.requires.linked.0 (omega arith) (omega arith) c.index-entries-from.is))
-    (sym c.if-is-not-higher.ensures)
+    (sym c.if-is_not_higher.ensures)
 
 pub returns : goal.returns
 returns g c =
@@ -20,9 +20,9 @@ returns g c =
     let le = g.H.Height.not_higher in
     let new : (d : Entry g.row.H.Denot) → (c.args.from ≡ 0 → ⊥) → le c.args.height (height_at es d c.args.from) ≡ false
     = λ d nz. elim c.if-from-ne0.branch [
-      | then-from-ne0+else-is-not-higher w ↦
+      | then-from-ne0+else-is_not_higher w ↦
           sym (ap (λ (x : Entry g.row.H.Denot). le c.args.height x.height) (get_or_read es c.args.from w.index-entries-from.result (omega arith) w.index-entries-from.is d))
-          ∙ sym w.is-not-higher.ensures ∙ w.if-is-not-higher.false
+          ∙ sym w.is_not_higher.ensures ∙ w.if-is_not_higher.false
       | else-from-ne0 w ↦ absurd (nz (omega (arith, w.if-from-ne0.false)))
     ] in
     grown_new g.met.H.Height.ordered es c.insert.new.entries c.args.used c.args.from c.args.height c.requires.linked (omega arith) (omega arith)

@@ -10,11 +10,11 @@ returns g c =
     let n = c.args.used + 1 in
     let f : Entry g.row.H.Denot = record { height = c.args.height; number = 1; next = c.index-entries-after.result.next; prev = c.args.after } in
     let k = c.index-entries-after.result.next in
-    let e : with_prev (with_next (set es n f) c.args.after n) k n ≡ c.set-prev.new.entries
-    = sym (c.set-prev.ensures ∙ ap (λ us. with_prev us k n) c.set-next.ensures) in
+    let e : with_prev (with_next (set es n f) c.args.after n) k n ≡ c.set_prev.new.entries
+    = sym (c.set_prev.ensures ∙ ap (λ us. with_prev us k n) c.set_next.ensures) in
     let w = inserted_by es c.args.used c.args.after c.args.height c.index-entries-after.result f c.requires.linked (omega arith) (omega arith) c.index-entries-after.is refl refl refl refl in
     let w₂ = subst (λ us. Inserted es us c.args.used c.args.after c.args.height) e w in
     record {
-      linked = inserted_linked es c.set-prev.new.entries c.args.used c.args.after c.args.height c.requires.linked (omega arith) (omega arith) (omega arith) w₂;
+      linked = inserted_linked es c.set_prev.new.entries c.args.used c.args.after c.args.height c.requires.linked (omega arith) (omega arith) (omega arith) w₂;
       inserted = w₂;
     }

@@ -3,8 +3,8 @@ use Rattle.finger_list.specs.Walking.{Went}
 use Rattle.finger_list.proofs.Adjacency.{height_read, in_range, stops_full, stops_up, up_read, went_none, went_up}
 use Rattle.finger_list.proofs.walk.climb.Goals as goal
 
-pub offset-bounds-entries-here : goal.offset-bounds-entries-here
-offset-bounds-entries-here g c =
+pub offset_bounds-entries-here : goal.offset_bounds-entries-here
+offset_bounds-entries-here g c =
     omega (arith, in_range c.args.entries.now c.args.used c.loop-steps.link c.index-entries-link.result c.requires.linked (omega arith) (omega arith) c.index-entries-link.is)
 
 pub bounds-entries-here : goal.bounds-entries-here
@@ -27,8 +27,8 @@ returns-then-here-eq0 g c =
           (w.0, stops_up g.met.H.Height.ordered es used i here.next c.args.height w.1 up (λ d pos. absurd (pos c.if-here-eq0.true)));
     }
 
-pub returns-then-not-is-not-higher : goal.returns-then-not-is-not-higher
-returns-then-not-is-not-higher g c =
+pub returns-then-not-is_not_higher : goal.returns-then-not-is_not_higher
+returns-then-not-is_not_higher g c =
     let es = c.args.entries.now in
     let used = c.args.used in
     let le = g.H.Height.not_higher in
@@ -43,7 +43,7 @@ returns-then-not-is-not-higher g c =
       walked = λ s u.
           let w = c.loop-steps.invariant.2 s u in
           let up = up_read le es used i here s (omega arith) (omega arith) c.index-entries-link.is in
-          let high = sym c.if-not-is-not-higher.ensures in (
+          let high = sym c.if-not-is_not_higher.ensures in (
             w.0,
             stops_up g.met.H.Height.ordered es used i here.next h w.1 up
                 (λ d pos. height_read le es here.next c.index-entries-here.result h false (omega (arith, r)) c.index-entries-here.is high d),
@@ -66,7 +66,7 @@ loop-steps-preserved g c =
       λ s u.
           let w = c.loop-steps.invariant.2 s u in
           let up = up_read le es used i here s (omega arith) (omega arith) c.index-entries-link.is in
-          let low = sym c.if-not-is-not-higher.ensures in (
+          let low = sym c.if-not-is_not_higher.ensures in (
             went_up g.met.H.Height.ordered es used c.requires.linked.0 s c.args.from i here.next c.loop-steps.steps c.loop-steps.passed above
                 c.if-here-eq0.false r.0 c.index-entries-here.is up w.0,
             λ d pos. height_read le es here.next above h true (omega (arith, r)) c.index-entries-here.is low d,

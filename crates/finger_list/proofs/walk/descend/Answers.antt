@@ -20,8 +20,8 @@ returns-then-link-eq0 g c =
           );
     }
 
-pub returns-then-is-not-higher : goal.returns-then-is-not-higher
-returns-then-is-not-higher g c =
+pub returns-then-is_not_higher : goal.returns-then-is_not_higher
+returns-then-is_not_higher g c =
     let es = c.args.entries.now in
     let i = c.loop-steps.link in
     let h = c.args.height in
@@ -31,15 +31,15 @@ returns-then-is-not-higher g c =
       light = omega arith;
       walked = λ s u.
           let w = c.loop-steps.invariant.2 s u in
-          let low = sym c.if-is-not-higher.ensures in (
+          let low = sym c.if-is_not_higher.ensures in (
             w.0,
             stops_down g.met.H.Height.ordered es c.args.used i h w.1
                 (λ d pos. height_read g.H.Height.not_higher es i c.index-entries-link.result h true (omega arith) c.index-entries-link.is low d),
           );
     }
 
-pub overflow-add-passed : goal.overflow-add-passed
-overflow-add-passed g c =
+pub overflow_add-passed : goal.overflow_add-passed
+overflow_add-passed g c =
     let r = in_range c.args.entries.now c.args.used c.loop-steps.link c.index-entries-link.result c.requires.linked (omega arith) (omega arith) c.index-entries-link.is in
     omega (arith, r.2)
 
@@ -59,7 +59,7 @@ loop-steps-preserved g c =
       λ s u.
           let w = c.loop-steps.invariant.2 s u in
           let down = down_read le es used i here c.requires.linked s (omega arith) (omega arith) is in
-          let high = height_read le es i here h false (omega arith) is (sym c.if-is-not-higher.ensures) in (
+          let high = height_read le es i here h false (omega arith) is (sym c.if-is_not_higher.ensures) in (
             went_down o es used c.requires.linked.0 s c.args.from here.prev i c.loop-steps.steps c.loop-steps.passed here
                 c.if-link-eq0.false (omega arith) is down w.0,
             still_over o es used here.prev i h c.if-link-eq0.false high down,

@@ -22,8 +22,8 @@ returns-in-None g c =
           subst (Arrived le es used h r) (sym c.in-None.is) (w.1, passed_all le es used h r d c.requires.linked.0 w);
     }
 
-pub returns-then-is-not-higher : goal.returns-then-is-not-higher
-returns-then-is-not-higher g c =
+pub returns-then-is_not_higher : goal.returns-then-is_not_higher
+returns-then-is_not_higher g c =
     let le = g.H.Height.not_higher in
     let o = g.met.H.Height.ordered in
     let es = c.args.entries.now in
@@ -31,10 +31,10 @@ returns-then-is-not-higher g c =
     let f = c.in-Some.finger in
     let p = f.height in
     let h = c.args.height in
-    let r = c.climb-then-is-not-higher.result in
-    let w = c.climb-then-is-not-higher.ensures in
+    let r = c.climb-then-is_not_higher.result in
+    let w = c.climb-then-is_not_higher.ensures in
     let d : Entry g.row.H.Denot = record { height = h; number = 0; next = 0; prev = 0 } in
-    let ph = sym c.if-is-not-higher.ensures in
+    let ph = sym c.if-is_not_higher.ensures in
     let low : f.link ≤ used = subst (λ x. link_of x ≤ used) c.in-Some.is c.requires.within in
     record {
       inside = w.inside;
@@ -45,8 +45,8 @@ returns-then-is-not-higher g c =
           (λ at. moved_up o es used p h f.link r d c.requires.linked.0 s pos at ph (w.walked s (at_under o es used p h f.link low at ph)));
     }
 
-pub returns-else-is-not-higher : goal.returns-else-is-not-higher
-returns-else-is-not-higher g c =
+pub returns-else-is_not_higher : goal.returns-else-is_not_higher
+returns-else-is_not_higher g c =
     let le = g.H.Height.not_higher in
     let o = g.met.H.Height.ordered in
     let es = c.args.entries.now in
@@ -57,7 +57,7 @@ returns-else-is-not-higher g c =
     let r = c.descend.result in
     let w = c.descend.ensures in
     let d : Entry g.row.H.Denot = record { height = h; number = 0; next = 0; prev = 0 } in
-    let ph = sym c.if-is-not-higher.ensures in
+    let ph = sym c.if-is_not_higher.ensures in
     record {
       inside = w.inside;
       few = w.few;

@@ -8,8 +8,8 @@ use Rattle.shift_array.proofs.Weights.{number_le}
 use Rattle.shift_array.proofs.Growth.{numbered, one, grown_number, grown_entry}
 use Rattle.shift_array.proofs.change.add.Goals as goal
 
-pub overflow-add-entries : goal.overflow-add-entries
-overflow-add-entries g c =
+pub overflow_add-entries : goal.overflow_add-entries
+overflow_add-entries g c =
     let es = c.args.entries.now in
     let used = c.args.used in
     let at = c.in-Ok.at in
@@ -54,7 +54,7 @@ returns-in-Err g c =
     record {
       within = omega arith;
       grown =
-          subst (λ vs. Grown le us vs h (used - at)) (sym c.insert-at.ensures)
+          subst (λ vs. Grown le us vs h (used - at)) (sym c.insert_at.ensures)
           (subst (λ m. Grown le us (insert us at (one h)) h (m - at)) n
           (grown_entry g.met.H.Height.ordered us at h c.in-Err.ensures));
     }

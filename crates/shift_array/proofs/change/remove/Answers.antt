@@ -48,7 +48,7 @@ returns-else-entry-gt1 g c =
     let Q : Entry g.row.H.Denot → Type 0 = λ e. 0 < e.number in
     let some : Q x = subst Q (sym is) (c.requires.positive at x stands.inside) in (
       omega arith,
-      subst (λ vs. Shrunk le us vs h (used - 1 - at)) (sym c.remove-at.ensures)
+      subst (λ vs. Shrunk le us vs h (used - 1 - at)) (sym c.remove_at.ensures)
           (subst (λ m. Shrunk le us (remove us at) h (m - 1 - at)) n
           (shrunk_entry g.met.H.Height.ordered us at x h is stands (omega (arith, some)))),
     )

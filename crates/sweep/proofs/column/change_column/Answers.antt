@@ -12,26 +12,26 @@ use Rattle.sweep.proofs.column.change_column.Goals as goal
 pub loop-j-init : goal.loop-j-init
 loop-j-init g c = (c.requires.sound, still)
 
-pub height-at-height-requires : goal.height-at-height-requires
-height-at-height-requires g c = record { lawful = c.requires.lawful; whole = c.requires.whole; inside = (c.requires.inside, c.walked-row-y.ensures.inside) }
+pub height_at-height-requires : goal.height_at-height-requires
+height_at-height-requires g c = record { lawful = c.requires.lawful; whole = c.requires.whole; inside = (c.requires.inside, c.walked_row-y.ensures.inside) }
 
-pub change-one-requires : goal.change-one-requires
-change-one-requires g c =
+pub change_one-requires : goal.change_one-requires
+change_one-requires g c =
     let b = c.args.band in
     let t = terrain b c.args.records.now in
-    let one = walked_height t b.radius b.y c.args.x c.loop-j.j c.walked-row-y.result c.height-at-height.result c.walked-row-y.ensures.exact c.height-at-height.ensures in
+    let one = walked_height t b.radius b.y c.args.x c.loop-j.j c.walked_row-y.result c.height_at-height.result c.walked_row-y.ensures.exact c.height_at-height.ensures in
     record {
       sound = c.loop-j.invariant.0;
-      ready = ready_column c.args.change (λ j. option_to_list (height_at t (walked_place t b.radius b.y c.args.x j))) c.loop-j.j (band_rows b.rows b.radius b.y) c.height-at-height.result one (omega arith) c.loop-j.invariant.1 c.requires.ready;
+      ready = ready_column c.args.change (λ j. option_to_list (height_at t (walked_place t b.radius b.y c.args.x j))) c.loop-j.j (band_rows b.rows b.radius b.y) c.height_at-height.result one (omega arith) c.loop-j.invariant.1 c.requires.ready;
     }
 
 pub loop-j-preserved : goal.loop-j-preserved
 loop-j-preserved g c =
     let b = c.args.band in
     let t = terrain b c.args.records.now in
-    let one = walked_height t b.radius b.y c.args.x c.loop-j.j c.walked-row-y.result c.height-at-height.result c.walked-row-y.ensures.exact c.height-at-height.ensures in (
-      c.change-one.ensures.sound,
-      ran_column c.args.change (λ j. option_to_list (height_at t (walked_place t b.radius b.y c.args.x j))) c.loop-j.j c.height-at-height.result one c.loop-j.invariant.1 c.change-one.ensures.ran,
+    let one = walked_height t b.radius b.y c.args.x c.loop-j.j c.walked_row-y.result c.height_at-height.result c.walked_row-y.ensures.exact c.height_at-height.ensures in (
+      c.change_one.ensures.sound,
+      ran_column c.args.change (λ j. option_to_list (height_at t (walked_place t b.radius b.y c.args.x j))) c.loop-j.j c.height_at-height.result one c.loop-j.invariant.1 c.change_one.ensures.ran,
     )
 
 pub returns : goal.returns

@@ -8,8 +8,8 @@ use Rattle.sweep.proofs.column.change_columns.Goals as goal
 pub loop-x-init : goal.loop-x-init
 loop-x-init g c = (c.requires.sound, ran_nothing c.args.change (column_heights (terrain c.args.band c.args.records.now) c.args.band.radius c.args.band.y) c.args.start)
 
-pub change-column-requires : goal.change-column-requires
-change-column-requires g c = record {
+pub change_column-requires : goal.change_column-requires
+change_column-requires g c = record {
   sound = c.loop-x.invariant.0;
   lawful = c.requires.lawful;
   whole = c.requires.whole;
@@ -19,8 +19,8 @@ change-column-requires g c = record {
 
 pub loop-x-preserved : goal.loop-x-preserved
 loop-x-preserved g c = (
-  c.change-column.ensures.sound,
-  ran_joined c.args.change (column_heights (terrain c.args.band c.args.records.now) c.args.band.radius c.args.band.y) c.args.start c.loop-x.x (omega arith) c.loop-x.invariant.1 c.change-column.ensures.ran,
+  c.change_column.ensures.sound,
+  ran_joined c.args.change (column_heights (terrain c.args.band c.args.records.now) c.args.band.radius c.args.band.y) c.args.start c.loop-x.x (omega arith) c.loop-x.invariant.1 c.change_column.ensures.ran,
 )
 
 pub returns : goal.returns

@@ -1,5 +1,5 @@
 -- The number falls to its tenth.
 use Rattle.console_text.proofs.answer_line.AnswerLine.+push_number.Given as goal
 
-abbrev pub decreases-push-number : goal.decreases-push-number
-decreases-push-number l = l.number
+abbrev pub decreases-push_number : goal.decreases-push_number
+decreases-push_number l = l.number

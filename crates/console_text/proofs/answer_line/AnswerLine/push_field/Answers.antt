@@ -8,6 +8,6 @@ pub returns : goal.returns
 returns c =
     let digits = decimal c.args.number in
     record {
-      text = c.push-number.ensures.text ∙ ap (λ t. t ++ digits) c.push-text.ensures.text ∙ append_assoc (held c.args.self.now) (32 ∷ []) digits;
+      text = c.push_number.ensures.text ∙ ap (λ t. t ++ digits) c.push_text.ensures.text ∙ append_assoc (held c.args.self.now) (32 ∷ []) digits;
       len = omega arith;
     }

@@ -8,8 +8,8 @@ returns c =
     let len = c.args.self.now.len in
     let old = c.args.self.now.bytes in
     let end = len + length c.args.text.now in
-    let same = c.copy-from-slice.ensures.after in
+    let same = c.copy_from_slice.ensures.after in
     record {
-      text = take-put_mid len (end - len) old c.copy-from-slice.new.self end (omega (arith, ap length same)) (omega arith) ∙ ap (λ t. take len old ++ t) same;
+      text = take-put_mid len (end - len) old c.copy_from_slice.new.self end (omega (arith, ap length same)) (omega arith) ∙ ap (λ t. take len old ++ t) same;
       len = refl;
     }

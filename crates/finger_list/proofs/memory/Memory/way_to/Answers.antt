@@ -9,7 +9,7 @@ walk-requires g c =
     let m = c.args.self.now in
     record {
       linked = tidy_linked m.entries.now m.used m.held m.fingers c.requires;
-      within = subst (λ f. link_of f ≤ m.used) (sym c.finger-of.ensures) (c.requires.3.3 c.args.hand);
+      within = subst (λ f. link_of f ≤ m.used) (sym c.finger_of.ensures) (c.requires.3.3 c.args.hand);
     }
 
 pub returns : goal.returns
@@ -17,7 +17,7 @@ returns g c =
     let m = c.args.self.now in
     let es = m.entries.now in
     let le = g.H.Height.not_higher in
-    let e = c.finger-of.ensures in
+    let e = c.finger_of.ensures in
     record {
       inside = c.walk.ensures.inside;
       few = c.walk.ensures.few;

@@ -6,13 +6,13 @@ returns g c =
     let le = g.C.Kind.Height.not_higher in
     let o = g.met.C.Kind.Height.ordered in
     let last = c.args.self.now.last in
-    let new = c.after-take-self.result in
+    let new = c.after_take-self.result in
     let v = g.C.Counter.view c.args.self.now.counter in
     let u = g.C.Counter.view c.take.new.self in
     let h = c.args.height in
     let steps = c.in-ok-steps.steps in
     let below = c.in-ok-steps.ensures in
-    let e = c.after-take-self.ensures in
+    let e = c.after_take-self.ensures in
     record {
       done = λ s. let d = below.done s.0 in (d.0, did_take le v u h steps last new e d.1);
       sound = λ s. (below.sound s.0, remembers_take o v u h steps last new e (below.done s.0).1 s.1);

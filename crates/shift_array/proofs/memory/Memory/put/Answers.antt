@@ -26,7 +26,7 @@ returns g c =
     let room : m.held < places_of (length es) = omega arith in
     let same : length fs ≡ length es = omega arith in
     let grown = c.add-change.ensures.grown in
-    let told = sym c.mileage-after-self.ensures in
+    let told = sym c.mileage_after-self.ensures in
     let T : ℕ → Type 0 = λ n. Tidy fs used (m.held + 1) n in
     let D : ℕ → Type 0 = λ n. (length (heights (take m.used es)) < places_of (length es)) × Did le (shown es m.used m.mileage) (put h) steps (shown fs used n) in
     record {

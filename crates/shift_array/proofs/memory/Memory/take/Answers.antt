@@ -6,8 +6,8 @@ use Rattle.shift_array.specs.Views.{shown, Tidy}
 use Rattle.shift_array.proofs.Packed.{tidy_take, did_take, some_held}
 use Rattle.shift_array.proofs.memory.Memory.take.Goals as goal
 
-pub overflow-sub-self : goal.overflow-sub-self
-overflow-sub-self g c =
+pub overflow_sub-self : goal.overflow_sub-self
+overflow_sub-self g c =
     let m = c.args.self.now in
     some_held g.H.Height.not_higher m.entries.now c.remove.new.entries m.used c.in-Some.change.used m.held m.mileage
     c.in-Some.change.steps c.args.height c.requires c.in-Some.ensures.1
@@ -34,7 +34,7 @@ returns-in-Some g c =
     let same : length fs ≡ length es = omega arith in
     let within = c.in-Some.ensures.0 in
     let shrunk = c.in-Some.ensures.1 in
-    let told = sym c.mileage-after-self.ensures in
+    let told = sym c.mileage_after-self.ensures in
     let T : ℕ → Type 0 = λ n. Tidy fs used (m.held - 1) n in
     let D : ℕ → Type 0 = λ n. (0 < level_with le (heights (take m.used es)) h) × Did le (shown es m.used m.mileage) (taking h) steps (shown fs used n) in
     record {

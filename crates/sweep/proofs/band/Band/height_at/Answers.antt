@@ -2,8 +2,8 @@ use Rattle.std.proofs.Common.{arith}
 use Rattle.sweep.proofs.Cells.{index_inside, height_of_record}
 use Rattle.sweep.proofs.band.Band.height_at.Goals as goal
 
-pub offset-bounds-records-y : goal.offset-bounds-records-y
-offset-bounds-records-y g c = omega (arith, index_inside c.args.self.width c.args.self.rows c.args.x c.args.y _ c.requires.whole c.requires.inside.0 c.requires.inside.1)
+pub offset_bounds-records-y : goal.offset_bounds-records-y
+offset_bounds-records-y g c = omega (arith, index_inside c.args.self.width c.args.self.rows c.args.x c.args.y _ c.requires.whole c.requires.inside.0 c.requires.inside.1)
 
 pub bounds-records-y : goal.bounds-records-y
 bounds-records-y g c = index_inside c.args.self.width c.args.self.rows c.args.x c.args.y _ c.requires.whole c.requires.inside.0 c.requires.inside.1
