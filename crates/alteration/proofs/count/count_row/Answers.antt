@@ -5,10 +5,10 @@ use Rattle.alteration.specs.Mending.{not_above}
 use Rattle.alteration.proofs.Counting.{test_read}
 use Rattle.alteration.proofs.Sums.{tally_next, tally_range_le}
 use Rattle.alteration.proofs.count.count_row.Goals as goal
-use Rattle.alteration.proofs.count.count_row.Goals.{then-is-not-higher, else-is-not-higher}
+use Rattle.alteration.proofs.count.count_row.Goals.{then-is_not_higher, else-is_not_higher}
 
-pub overflow-add-count : goal.overflow-add-count
-overflow-add-count g c =
+pub overflow_add-count : goal.overflow_add-count
+overflow_add-count g c =
     let few = tally_range_le (not_above g.H.Height.not_higher c.args.records.now c.args.height) c.args.start (c.loop-index.index - c.args.start) in
     let inv = c.loop-index.invariant in
     let most : c.loop-index.count < 1024 = omega (arith, few, inv, c.requires.2, c.loop-index-test.true) in
@@ -22,12 +22,12 @@ loop-index-preserved g c =
     let h = c.args.height in
     let bit : Bool → ℕ = λ b. cond b 1 0 in
     let lt : i < length records = omega (arith, c.requires.1, c.loop-index-test.true) in
-    let test = test_read le records h i c.index-records-index.result c.is-not-higher.result lt c.is-not-higher.ensures in
+    let test = test_read le records h i c.index-records-index.result c.is_not_higher.result lt c.is_not_higher.ensures in
     let more = tally_next (not_above le records h) c.args.start i (omega arith) in
     let inv = c.loop-index.invariant in
-    elim c.if-is-not-higher.branch [
-      | then-is-not-higher w ↦ omega (arith, more, inv, w.count-is, ap bit (test ∙ w.if-is-not-higher.true))
-      | else-is-not-higher w ↦ omega (arith, more, inv, w.count-is, ap bit (test ∙ w.if-is-not-higher.false))
+    elim c.if-is_not_higher.branch [
+      | then-is_not_higher w ↦ omega (arith, more, inv, w.count-is, ap bit (test ∙ w.if-is_not_higher.true))
+      | else-is_not_higher w ↦ omega (arith, more, inv, w.count-is, ap bit (test ∙ w.if-is_not_higher.false))
     ]
 
 pub returns : goal.returns

@@ -6,17 +6,17 @@ use Rattle.alteration.proofs.Mendings.{row_below}
 use Rattle.alteration.proofs.Sums.{joined_tally_next}
 use Rattle.alteration.proofs.count.count_rows.Goals as goal
 
-pub count-row-count-requires : goal.count-row-count-requires
-count-row-count-requires g c =
+pub count_row-count-requires : goal.count_row-count-requires
+count_row-count-requires g c =
     let p = c.args.part in (
       omega (arith, c.requires.lawful.0),
       omega (arith, row_below c.loop-y.y p.bottom p.width c.loop-y-test.true, c.requires.lawful.1, c.requires.fitted),
       omega (arith, c.requires.lawful.1, c.requires.lawful.2),
     )
 
-pub overflow-add-count : goal.overflow-add-count
-overflow-add-count g c =
-    let most : c.loop-y.count + c.count-row-count.result < 2000000 = omega (arith, c.loop-y.invariant.1, c.count-row-count.ensures.few, c.requires.lawful.3, c.loop-y-test.true) in
+pub overflow_add-count : goal.overflow_add-count
+overflow_add-count g c =
+    let most : c.loop-y.count + c.count_row-count.result < 2000000 = omega (arith, c.loop-y.invariant.1, c.count_row-count.ensures.few, c.requires.lawful.3, c.loop-y-test.true) in
     search rules
 
 pub loop-y-preserved : goal.loop-y-preserved
@@ -25,11 +25,11 @@ loop-y-preserved g c =
     let y = c.loop-y.y in
     let test = not_above g.H.Height.not_higher c.args.records.now c.args.height in
     let wide : (y * p.width + p.right) - (y * p.width + p.left) ≡ p.right - p.left = omega arith in
-    let row : c.count-row-count.result ≡ tally test (range_with_len (y * p.width + p.left) (p.right - p.left)) =
-    c.count-row-count.ensures.exact ∙ ap (λ n. tally test (range_with_len (y * p.width + p.left) n)) wide in
+    let row : c.count_row-count.result ≡ tally test (range_with_len (y * p.width + p.left) (p.right - p.left)) =
+    c.count_row-count.ensures.exact ∙ ap (λ n. tally test (range_with_len (y * p.width + p.left) n)) wide in
     let more = joined_tally_next test (λ b. range_with_len (b * p.width + p.left) (p.right - p.left)) p.top y (omega arith) in (
       omega (arith, c.loop-y.invariant.0, c.loop-y-test.true),
-      omega (arith, c.loop-y.invariant.1, c.count-row-count.ensures.few),
+      omega (arith, c.loop-y.invariant.1, c.count_row-count.ensures.few),
       omega (arith, c.loop-y.invariant.2, row, more),
     )
 

@@ -3,4 +3,4 @@ use Rattle.alteration.proofs.Mendings.{cell-more}
 use Rattle.alteration.proofs.mend.mend_row.Goals as goal
 
 pub loop-index-preserved : goal.loop-index-preserved
-loop-index-preserved g c = cell-more c.args.start c.loop-index.index (omega arith) c.loop-index.invariant c.mend-cell.ensures
+loop-index-preserved g c = cell-more c.args.start c.loop-index.index (omega arith) c.loop-index.invariant c.mend_cell.ensures

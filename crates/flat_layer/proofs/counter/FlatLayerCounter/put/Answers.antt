@@ -10,9 +10,9 @@ returns g c =
     let v = g.C.Counter.view c.args.self.now.counter in
     let u = g.C.Counter.view c.put.new.self in
     let h = c.args.height in
-    let steps = c.in-ok-steps.steps in
+    let steps = c.in_ok-steps.steps in
     let places = c.places-places.result in
-    let below = c.in-ok-steps.ensures in
+    let below = c.in_ok-steps.ensures in
     let e = c.after_put-self.ensures in
     record {
       done = λ s. let d = below.done s.0 in (d.0, did_put le v u h steps places last new e d.1);

@@ -10,8 +10,8 @@ returns g c =
     let v = g.C.Counter.view c.args.self.now.counter in
     let u = g.C.Counter.view c.take.new.self in
     let h = c.args.height in
-    let steps = c.in-ok-steps.steps in
-    let below = c.in-ok-steps.ensures in
+    let steps = c.in_ok-steps.steps in
+    let below = c.in_ok-steps.ensures in
     let e = c.after_take-self.ensures in
     record {
       done = λ s. let d = below.done s.0 in (d.0, did_take le v u h steps last new e d.1);
