@@ -51,7 +51,7 @@ fn open_plan<H: HeightKind>(
 ) -> Answer
     requires pairs { HexPairs digits.now }
     requires short { length digits.now ≤ 9000 }
-    ensures carried { OpenCarried (storage H.HeightKind) width rows radius digits.now (box_contents siting.old) (box_contents siting.new) result }
+    ensures carried { OpenCarried (storage H.HeightKind.wide H.HeightKind.reads) width rows radius digits.now (box_contents siting.old) (box_contents siting.new) result }
     ensures counts { Counted H.Height.not_higher (box_contents siting.old) → Counted H.Height.not_higher (box_contents siting.new) }
     ensures lent { siting.new.parts.records.ghost_name ≡ siting.old.parts.records.ghost_name }
 {
@@ -79,7 +79,7 @@ fn alter_height<H: HeightKind>(
 ) -> Answer
     requires pairs { HexPairs digits.now }
     requires short { length digits.now ≤ 9000 }
-    ensures carried { AlterCarried (storage H.HeightKind) H.Height.not_higher x y digits.now (box_contents siting.old) (box_contents siting.new) result }
+    ensures carried { AlterCarried (storage H.HeightKind.wide H.HeightKind.reads) H.Height.not_higher x y digits.now (box_contents siting.old) (box_contents siting.new) result }
     ensures counts { Counted H.Height.not_higher (box_contents siting.old) → Counted H.Height.not_higher (box_contents siting.new) }
     ensures lent { siting.new.parts.records.ghost_name ≡ siting.old.parts.records.ghost_name }
 {
@@ -95,7 +95,7 @@ fn alter_height<H: HeightKind>(
 
 // Tells the nearest cell that is strictly higher than one.
 fn tell_nearest<H: HeightKind>(siting: &SitingBox<'_, H>, x: u32, y: u32) -> Answer
-    ensures { NearestCarried (storage H.HeightKind) H.Height.not_higher x y (box_contents siting.now) result }
+    ensures { NearestCarried (storage H.HeightKind.wide H.HeightKind.reads) H.Height.not_higher x y (box_contents siting.now) result }
 {
     match siting.nearest(x as usize, y as usize) {
         Ok(found) => Answer::Nearest(found),
@@ -108,7 +108,7 @@ fn sweep_next<H: HeightKind, C: Counter<Kind = H>>(
     siting: &mut SitingBox<'_, H>,
     counter: &mut C,
 ) -> Answer
-    ensures carried { SweepCarried (storage H.HeightKind) H.Height.not_higher (box_contents siting.old) (box_contents siting.new) (C.Counter.view counter.old) (C.Counter.view counter.new) result }
+    ensures carried { SweepCarried (storage H.HeightKind.wide H.HeightKind.reads) H.Height.not_higher (box_contents siting.old) (box_contents siting.new) (C.Counter.view counter.old) (C.Counter.view counter.new) result }
     ensures counts { Counted H.Height.not_higher (box_contents siting.old) → Counted H.Height.not_higher (box_contents siting.new) }
     ensures sound { C.Counter.sound counter.old → C.Counter.sound counter.new }
     ensures lent { siting.new.parts.records.ghost_name ≡ siting.old.parts.records.ghost_name }
@@ -121,7 +121,7 @@ fn sweep_next<H: HeightKind, C: Counter<Kind = H>>(
 
 // Tells the count of a cell and the cells of its window.
 fn tell_count<H: HeightKind>(siting: &SitingBox<'_, H>, x: u32, y: u32) -> Answer
-    ensures { TellCarried (storage H.HeightKind) H.Height.not_higher x y (box_contents siting.now) result }
+    ensures { TellCarried (storage H.HeightKind.wide H.HeightKind.reads) H.Height.not_higher x y (box_contents siting.now) result }
 {
     match siting.tell(x as usize, y as usize) {
         Ok(told) => Answer::Told {
@@ -134,7 +134,7 @@ fn tell_count<H: HeightKind>(siting: &SitingBox<'_, H>, x: u32, y: u32) -> Answe
 
 // Tells the share of a cell.
 fn tell_share<H: HeightKind>(siting: &SitingBox<'_, H>, x: u32, y: u32) -> Answer
-    ensures { ShareCarried (storage H.HeightKind) H.Height.not_higher x y (box_contents siting.now) result }
+    ensures { ShareCarried (storage H.HeightKind.wide H.HeightKind.reads) H.Height.not_higher x y (box_contents siting.now) result }
 {
     match siting.share(x as usize, y as usize) {
         Ok(share) => Answer::Share(share),
@@ -149,7 +149,7 @@ fn carry_out<H: HeightKind, C: Counter<Kind = H>>(
     command: Command<'_>,
 ) -> Answer
     requires { Decodable command }
-    ensures carried { Carried (storage H.HeightKind) H.Height.not_higher command.entry (box_contents siting.old) (box_contents siting.new) (C.Counter.view counter.old) (C.Counter.view counter.new) result }
+    ensures carried { Carried (storage H.HeightKind.wide H.HeightKind.reads) H.Height.not_higher command.entry (box_contents siting.old) (box_contents siting.new) (C.Counter.view counter.old) (C.Counter.view counter.new) result }
     ensures counts { Counted H.Height.not_higher (box_contents siting.old) → Counted H.Height.not_higher (box_contents siting.new) }
     ensures sound { C.Counter.sound counter.old → C.Counter.sound counter.new }
     ensures lent { siting.new.parts.records.ghost_name ≡ siting.old.parts.records.ghost_name }
@@ -176,7 +176,7 @@ pub fn serve<H: HeightKind, C: Counter<Kind = H>>(
     counter: &mut C,
     line: &Line,
 ) -> Answer
-    ensures served { Served (storage H.HeightKind) H.Height.not_higher (come line.now) (box_contents siting.old) (box_contents siting.new) (C.Counter.view counter.old) (C.Counter.view counter.new) result }
+    ensures served { Served (storage H.HeightKind.wide H.HeightKind.reads) H.Height.not_higher (come line.now) (box_contents siting.old) (box_contents siting.new) (C.Counter.view counter.old) (C.Counter.view counter.new) result }
     ensures counts { Counted H.Height.not_higher (box_contents siting.old) → Counted H.Height.not_higher (box_contents siting.new) }
     ensures sound { C.Counter.sound counter.old → C.Counter.sound counter.new }
     ensures lent { siting.new.parts.records.ghost_name ≡ siting.old.parts.records.ghost_name }

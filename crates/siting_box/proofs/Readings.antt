@@ -12,15 +12,15 @@ within i n w bytes h e =
 
 module _ {X C : Type 0} (k : Storage X C) (bytes : List ℕ) where
   -- one reading more
-  pub read_more : (i : ℕ) → read_first k bytes (i + 1) ≡ read_more (read_first k bytes i) i (stored_at k bytes i)
-  read_more i = rw add-one
+  pub one_read_more : (i : ℕ) → read_first k bytes (i + 1) ≡ read_more (read_first k bytes i) i (stored_at k bytes i)
+  one_read_more i = rw add-one
 
   -- once a reading failed, that failure stays
   stays_on : (i d : ℕ) (e : ℕ × C) → read_first k bytes i ≡ Err e → read_first k bytes (i + d) ≡ Err e
   stays_on i zero e h = rw add-zero h
   stays_on i (suc d) e h =
       let step : i + suc d ≡ (i + d) + 1 = omega arith in
-      ap (read_first k bytes) step ∙ read_more (i + d) ∙ ap (λ r. read_more r (i + d) (stored_at k bytes (i + d))) (stays_on i d e h)
+      ap (read_first k bytes) step ∙ one_read_more (i + d) ∙ ap (λ r. read_more r (i + d) (stored_at k bytes (i + d))) (stays_on i d e h)
 
   pub stays : (i n : ℕ) (e : ℕ × C) → i ≤ n → read_first k bytes i ≡ Err e → read_first k bytes n ≡ Err e
   stays i n e le h =
@@ -34,7 +34,7 @@ module _ {X C : Type 0} (k : Storage X C) (bytes : List ℕ) where
   -- the first that fails is told
   pub fails : (i n : ℕ) (c : C) → i < n → is_ok (read_first k bytes i) ≡ true → stored_at k bytes i ≡ Err c → read_first k bytes n ≡ Err (i, c)
   fails i n c lt h e =
-      stays (i + 1) n (i, c) (omega arith) (read_more i ∙ ap (read_more (read_first k bytes i) i) e ∙ failed i c (read_first k bytes i) h)
+      stays (i + 1) n (i, c) (omega arith) (one_read_more i ∙ ap (read_more (read_first k bytes i) i) e ∙ failed i c (read_first k bytes i) h)
 
   passed : (i : ℕ) (h : X) (r : Result (List X) (ℕ × C)) → is_ok r ≡ true → (is_ok (read_more r i (Ok h)) ≡ true) × (ok_heights (read_more r i (Ok h)) ≡ ok_heights r ++ (h ∷ []))
   passed i h (Ok hs) e = (refl, refl)
@@ -43,7 +43,7 @@ module _ {X C : Type 0} (k : Storage X C) (bytes : List ℕ) where
   -- a height that reads joins those before it
   pub joins : (i : ℕ) (h : X) → is_ok (read_first k bytes i) ≡ true → stored_at k bytes i ≡ Ok h → (is_ok (read_first k bytes (i + 1)) ≡ true) × (heights_read k bytes (i + 1) ≡ heights_read k bytes i ++ (h ∷ []))
   joins i h ok e =
-      let step = read_more i ∙ ap (read_more (read_first k bytes i) i) e in
+      let step = one_read_more i ∙ ap (read_more (read_first k bytes i) i) e in
       let p = passed i h (read_first k bytes i) ok in
       (ap is_ok step ∙ p.0, ap ok_heights step ∙ p.1)
 

@@ -47,8 +47,8 @@ impl<'a, H: HeightKind> Parts<'a, H> {
     ) -> Result<(), Denial<H::Cause>>
         requires { well_fitted self.old.plan (length self.old.records.now) ≡ true }
         ensures fitted { well_fitted self.new.plan (length self.new.records.now) ≡ true }
-        ensures denial { denied_by result ≡ first_no (open_questions (storage H.HeightKind) (parts_contents self.old) width rows radius bytes.now) }
-        ensures leaves { OpenLeaves (storage H.HeightKind) width rows radius bytes.now (parts_contents self.old) (parts_contents self.new) result }
+        ensures denial { denied_by result ≡ first_no (open_questions (storage H.HeightKind.wide H.HeightKind.reads) (parts_contents self.old) width rows radius bytes.now) }
+        ensures leaves { OpenLeaves (storage H.HeightKind.wide H.HeightKind.reads) width rows radius bytes.now (parts_contents self.old) (parts_contents self.new) result }
         ensures lent { self.new.records.ghost_name ≡ self.old.records.ghost_name }
     {
         if !are_lawful(width, rows, radius) {
@@ -84,8 +84,8 @@ impl<'a, H: HeightKind> Parts<'a, H> {
     pub(crate) fn alter(&mut self, x: usize, y: usize, bytes: &[u8]) -> Result<(), Denial<H::Cause>>
         requires { well_fitted self.old.plan (length self.old.records.now) ≡ true }
         ensures fitted { well_fitted self.new.plan (length self.new.records.now) ≡ true }
-        ensures denial { denied_by result ≡ first_no (alter_questions (storage H.HeightKind) (parts_contents self.old) x y bytes.now) }
-        ensures leaves { AlterLeaves (storage H.HeightKind) H.Height.not_higher x y bytes.now (parts_contents self.old) (parts_contents self.new) result }
+        ensures denial { denied_by result ≡ first_no (alter_questions (storage H.HeightKind.wide H.HeightKind.reads) (parts_contents self.old) x y bytes.now) }
+        ensures leaves { AlterLeaves (storage H.HeightKind.wide H.HeightKind.reads) H.Height.not_higher x y bytes.now (parts_contents self.old) (parts_contents self.new) result }
         ensures lent { self.new.records.ghost_name ≡ self.old.records.ghost_name }
     {
         let Some(plan) = self.plan else {

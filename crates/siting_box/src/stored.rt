@@ -17,7 +17,7 @@ pub(crate) struct Failure<C> {
 // The stored height at an index.
 pub(crate) fn read_at<H: HeightKind>(bytes: &[u8], index: usize) -> Result<H, H::Cause>
     requires { (index + 1) * H.HeightKind.wide ≤ length bytes.now }
-    ensures { result ≡ stored_at (storage H.HeightKind) bytes.now index }
+    ensures { result ≡ stored_at (storage H.HeightKind.wide H.HeightKind.reads) bytes.now index }
 {
     let width = H::stored_width();
     let start = index * width;
@@ -31,7 +31,7 @@ pub(crate) fn read_at<H: HeightKind>(bytes: &[u8], index: usize) -> Result<H, H:
 // The first of so many stored heights that does not read.
 pub(crate) fn first_failure<H: HeightKind>(bytes: &[u8], count: usize) -> Option<Failure<H::Cause>>
     requires { count * H.HeightKind.wide ≤ length bytes.now }
-    ensures { MatchOption result (is_ok (read_first (storage H.HeightKind) bytes.now count) ≡ true) (λ f. (f.index < count) × (read_first (storage H.HeightKind) bytes.now count ≡ Err (f.index, f.cause))) }
+    ensures { MatchOption result (is_ok (read_first (storage H.HeightKind.wide H.HeightKind.reads) bytes.now count) ≡ true) (λ f. (f.index < count) × (read_first (storage H.HeightKind.wide H.HeightKind.reads) bytes.now count ≡ Err (f.index, f.cause))) }
 {
     for index in 0..count {
         if let Err(cause) = read_at::<H>(bytes, index) {
@@ -44,8 +44,8 @@ pub(crate) fn first_failure<H: HeightKind>(bytes: &[u8], count: usize) -> Option
 // Stores the heights in the records, with counts 0.
 pub(crate) fn fill<H: HeightKind>(records: &mut [CellRecord<H>], bytes: &[u8])
     requires enough { length records.old * H.HeightKind.wide ≤ length bytes.now }
-    requires all_read { is_ok (read_first (storage H.HeightKind) bytes.now (length records.old)) ≡ true }
-    ensures { records.new ≡ map fresh (heights_read (storage H.HeightKind) bytes.now (length records.old)) }
+    requires all_read { is_ok (read_first (storage H.HeightKind.wide H.HeightKind.reads) bytes.now (length records.old)) ≡ true }
+    ensures { records.new ≡ map fresh (heights_read (storage H.HeightKind.wide H.HeightKind.reads) bytes.now (length records.old)) }
 {
     for index in 0..records.len() {
         if let Ok(height) = read_at::<H>(bytes, index) {

@@ -37,8 +37,8 @@ impl<'a, H: HeightKind> SitingBox<'a, H> {
         radius: usize,
         bytes: &[u8],
     ) -> Result<(), Denial<H::Cause>>
-        ensures denial { denied_by result ≡ first_no (open_questions (storage H.HeightKind) (box_contents self.old) width rows radius bytes.now) }
-        ensures leaves { OpenLeaves (storage H.HeightKind) width rows radius bytes.now (box_contents self.old) (box_contents self.new) result }
+        ensures denial { denied_by result ≡ first_no (open_questions (storage H.HeightKind.wide H.HeightKind.reads) (box_contents self.old) width rows radius bytes.now) }
+        ensures leaves { OpenLeaves (storage H.HeightKind.wide H.HeightKind.reads) width rows radius bytes.now (box_contents self.old) (box_contents self.new) result }
         ensures counts { Counted H.Height.not_higher (box_contents self.old) → Counted H.Height.not_higher (box_contents self.new) }
         ensures lent { self.new.parts.records.ghost_name ≡ self.old.parts.records.ghost_name }
     {
@@ -47,8 +47,8 @@ impl<'a, H: HeightKind> SitingBox<'a, H> {
 
     // Gives the cell in column x of row y another stored height; counts that were the defined ones are so for the new heights.
     pub fn alter(&mut self, x: usize, y: usize, bytes: &[u8]) -> Result<(), Denial<H::Cause>>
-        ensures denial { denied_by result ≡ first_no (alter_questions (storage H.HeightKind) (box_contents self.old) x y bytes.now) }
-        ensures leaves { AlterLeaves (storage H.HeightKind) H.Height.not_higher x y bytes.now (box_contents self.old) (box_contents self.new) result }
+        ensures denial { denied_by result ≡ first_no (alter_questions (storage H.HeightKind.wide H.HeightKind.reads) (box_contents self.old) x y bytes.now) }
+        ensures leaves { AlterLeaves (storage H.HeightKind.wide H.HeightKind.reads) H.Height.not_higher x y bytes.now (box_contents self.old) (box_contents self.new) result }
         ensures counts { Counted H.Height.not_higher (box_contents self.old) → Counted H.Height.not_higher (box_contents self.new) }
         ensures lent { self.new.parts.records.ghost_name ≡ self.old.parts.records.ghost_name }
     {

@@ -7,7 +7,7 @@ pub returns-in-Ok : goal.returns-in-Ok
 returns-in-Ok g c =
     let told = c.in-Ok.told in
     let radius = c.radius-radius.ensures.exact in
-    let is : c.share-of.result ≡ share_of told.count (radius_of c.args.self.now.plan) = c.share-of.ensures ∙ ap (share_of told.count) radius in
+    let is : c.share_of.result ≡ share_of told.count (radius_of c.args.self.now.plan) = c.share_of.ensures ∙ ap (share_of told.count) radius in
     let answer = c.in-Ok.ensures.answer in
     record {
       denial = c.in-Ok.ensures.denial;
