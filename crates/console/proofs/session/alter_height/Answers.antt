@@ -18,7 +18,7 @@ pub returns-in-Err : goal.returns-in-Err
 returns-in-Err g c =
     let same : take (c.in-Some.count - 0) c.unhex.new.out ≡ bytes_of c.args.digits.now = decoded c.in-Some.count c.args.digits.now c.unhex.new.out _ c.in-Some.ensures.answer.2 c.in-Some.ensures.bytes in
     record {
-      carried = carries_alter (storage g.H.HeightKind.wide g.H.HeightKind.reads) g.H.Height.not_higher c.args.x c.args.y _ c.args.digits.now (box_contents c.args.siting.now) (box_contents c.alter.new.self) (Err c.in-Err.denial) _ same c.in-Err.ensures.denial c.in-Err.ensures.leaves c.denial-answer.ensures;
+      carried = carries_alter (storage g.H.HeightKind.wide g.H.HeightKind.reads) g.H.Height.not_higher c.args.x c.args.y _ c.args.digits.now (box_contents c.args.siting.now) (box_contents c.alter.new.self) (Err c.in-Err.denial) _ same c.in-Err.ensures.denial c.in-Err.ensures.leaves c.denial_answer.ensures;
       counts = c.in-Err.ensures.counts;
       lent = c.in-Err.ensures.lent;
     }
