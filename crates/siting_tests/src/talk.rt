@@ -10,21 +10,19 @@ use siting_box::SitingBox;
 use std::process::Abort;
 use std::test::Fail;
 
-// Serves one line and compares the answer.
-pub fn ask<H: HeightKind, C: Counter<Kind = H>>(
-    rt: &impl Abort,
+// Serves one line and tells whether this is the answer.
+fn is_answered<H: HeightKind, C: Counter<Kind = H>>(
     siting: &mut SitingBox<'_, H>,
     counter: &mut C,
     line: &[u8],
     answer: &[u8],
-) -> Result<(), Fail> {
+) -> bool {
     let mut given = Line::new();
     for byte in line {
         given.add(*byte);
     }
     let told = render(serve(siting, counter, &given));
-    assert!(rt; told.as_bytes() == answer);
-    Ok(())
+    told.as_bytes() == answer
 }
 
 // Serves the lines one after another, with the flat layer over a counter.
@@ -37,14 +35,13 @@ pub fn talk<H: HeightKind, C: Counter<Kind = H> + Drop>(
     let mut siting = SitingBox::new(records);
     let mut layer = FlatLayer::over(counter);
     for turn in turns {
-        ask(
-            rt,
+        let answered = is_answered(
             &mut siting,
             &mut layer,
             turn.0.as_bytes(),
             turn.1.as_bytes(),
-        )
-        .note(turn.0)?;
+        );
+        assert!(rt; answered, "{}", turn.0);
     }
     Ok(())
 }
