@@ -13,7 +13,7 @@ use Rattle.sweep.proofs.Cells.{index_inside, height_of_record, count_of}
 use Rattle.sweep.proofs.Windows.{near_yes}
 use Rattle.alteration.specs.declared.part.Part.{Part}
 use Rattle.alteration.specs.Altering.{CountedAt, Altered}
-use Rattle.alteration.specs.Mending.{mended, Mended, not_above}
+use Rattle.alteration.specs.Mending.{Mended, not_above}
 use Rattle.alteration.specs.Parts.{Alterable, part_around, indices_of}
 use Rattle.alteration.proofs.Counting.{same_cell, changed, own-height, count-near, count-far, count-anew, count_le}
 use Rattle.alteration.proofs.Mendings.{InRows, mended_right, row_below}

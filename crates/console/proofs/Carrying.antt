@@ -1,5 +1,5 @@
 -- What carrying out a command on a box gives.
-use Rattle.std.proofs.Common.{◌≡◌, ℕ, ◌-◌, ◌/◌, Bool, List, ◌++◌, length, take, drop, Result, sym, refl, ap, ◌∙◌, subst, arith}
+use Rattle.std.proofs.Common.{◌≡◌, ℕ, ◌-◌, ◌/◌, Bool, List, ◌++◌, length, take, Result, ap, ◌∙◌, subst, arith}
 use lib.Seq.{take-append_seam}
 use Rattle.heights.specs.Meaning.{Storage}
 use Rattle.siting_box.specs.declared.denial.Denial.{Denial}

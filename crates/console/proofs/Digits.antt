@@ -1,5 +1,5 @@
 -- The digits of a line are no more than the line.
-use Rattle.std.proofs.Common.{◌≡◌, ℕ, ◌+◌, ◌≤◌, Bool, true, false, cond, List, [], ◌∷◌, ◌++◌, length, take, Some, None, ap, ◌∙◌, arith, length-append, length-take}
+use Rattle.std.proofs.Common.{◌≡◌, ℕ, ◌≤◌, Bool, true, false, cond, List, [], ◌∷◌, length, take, Some, None, ap, arith, length-append, length-take}
 use Rattle.console_text.specs.declared.commands.Command.{Command}
 use Rattle.console_text.specs.declared.commands.Command.TheVariants as command
 use Rattle.console_text.specs.Words.{after_spaces}

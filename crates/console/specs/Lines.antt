@@ -1,5 +1,5 @@
 -- A line of at most 9,000 bytes.
-use Rattle.std.specs.Prelude.{ℕ, Bool, cond, List, [], ◌∷◌, ◌++◌, length, take, Some, None, Option, nat_lt}
+use Rattle.std.specs.Prelude.{ℕ, cond, List, [], ◌∷◌, ◌++◌, length, take, Some, None, Option, nat_lt}
 use Rattle.console.specs.declared.line.Line.{Line}
 
 -- what has come of a line: its bytes, or nothing once there were more than 9,000

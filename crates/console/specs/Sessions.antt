@@ -6,7 +6,7 @@ use Rattle.grid.specs.declared.Higher.{Higher}
 use Rattle.siting_box.specs.declared.denial.Denial.{Denial}
 use Rattle.siting_box.specs.declared.denial.Denial.TheVariants.{NoPlan, Sizes, TooFewRecords, Outside, StoredLength, Unread, NoRowLeft, TooFewPlaces, NotSwept}
 use Rattle.siting_box.specs.Contents.{Contents}
-use Rattle.siting_box.specs.Denials.{number, denied_by, first_no}
+use Rattle.siting_box.specs.Denials.{denied_by, first_no}
 use Rattle.siting_box.specs.declared.told.Told.{Told}
 use Rattle.siting_box.specs.Calls.{open_questions, OpenLeaves, alter_questions, AlterLeaves, sweep_questions, SweepLeaves, tell_questions, TellAnswer, share_questions, ShareAnswer, nearest_questions, NearestAnswer}
 use Rattle.console_text.specs.declared.answers.Answer.{Answer}

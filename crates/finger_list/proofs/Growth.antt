@@ -9,7 +9,7 @@ use Rattle.finger_list.specs.Entries.{in_use, height_at, number_at, next_at, pre
 use Rattle.finger_list.specs.Linking.{Linked, Stands, StandsAt}
 use Rattle.finger_list.specs.Writing.{Inserted}
 use Rattle.finger_list.specs.Hands.{followed_link}
-use Rattle.finger_list.specs.Walking.{part, one, many, weighs}
+use Rattle.finger_list.specs.Walking.{part, many, weighs}
 use Rattle.finger_list.specs.Changes.{Grown}
 use Rattle.heights.specs.Order.{Preorder}
 use Rattle.counters.proofs.Preorders.{reflexive}

@@ -1,10 +1,10 @@
 -- An ask is told rightly, from memory or from below.
-use Rattle.std.proofs.Common.{◌≡◌, ℕ, ◌+◌, ◌^◌, ◌≤◌, min, Bool, true, false, cond, List, Some, None, Option, sym, refl, ap, ◌∙◌, subst, arith}
+use Rattle.std.proofs.Common.{◌≡◌, ℕ, Bool, true, false, cond, List, Some, None, Option, sym, refl, ap, ◌∙◌, subst, arith}
 use Rattle.heights.specs.Order.{Preorder, level}
 use Rattle.counters.specs.declared.counter.Asked.{Asked}
 use Rattle.counters.specs.declared.counter.Counter.{Ghosts}
 use Rattle.counters.specs.Held.{up_to}
-use Rattle.counters.specs.Calls.{View, StepRule, unstated, shifting, waiting, fingers, Call, put, take, ask, rule_after, Steps, Did}
+use Rattle.counters.specs.Calls.{View, StepRule, unstated, shifting, waiting, fingers, ask, rule_after, Steps, Did}
 use Rattle.counters.proofs.Preorders.{level_self, level_transitive}
 use Rattle.counters.proofs.Tallies.{same_refl, same_up_to}
 use Rattle.flat_layer.specs.declared.remembered.Remembered.{Remembered}

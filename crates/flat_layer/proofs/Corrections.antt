@@ -1,8 +1,8 @@
 -- An accepted put or take below is one of the layer, and the corrected answer is right.
-use Rattle.std.proofs.Common.{◌≡◌, ℕ, ◌+◌, ◌-◌, ◌^◌, ◌<◌, ◌≤◌, min, Bool, true, false, cond, List, ◌∷◌, length, Some, None, Option, sym, refl, ap, ◌∙◌, subst, arith}
+use Rattle.std.proofs.Common.{◌≡◌, ℕ, ◌+◌, ◌-◌, ◌<◌, min, Bool, true, false, cond, List, ◌∷◌, length, Some, None, Option, sym, refl, ap, ◌∙◌, subst, arith}
 use Rattle.heights.specs.Order.{Preorder}
 use Rattle.counters.specs.Held.{up_to}
-use Rattle.counters.specs.Calls.{View, StepRule, unstated, shifting, waiting, fingers, Call, put, take, ask, rule_after, Steps, Did}
+use Rattle.counters.specs.Calls.{View, StepRule, unstated, shifting, waiting, fingers, put, take, rule_after, Steps, Did}
 use Rattle.counters.proofs.Tallies.{tally_le_length, same_up_to}
 use Rattle.flat_layer.specs.declared.remembered.Remembered.{Remembered}
 use Rattle.flat_layer.specs.Memory.{after_put, after_take}

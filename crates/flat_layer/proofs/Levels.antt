@@ -1,10 +1,9 @@
 -- Level heights in each other's place: in answers and as places of a finger.
-use Rattle.std.proofs.Common.{◌≡◌, ℕ, ◌+◌, Bool, true, false, cond, not, ◌&&◌, List, [], ◌∷◌, sym, refl, ap, ◌∙◌, arith}
-use Rattle.std.proofs.lemmas.Bool.{both_ways, and_parts, not-true}
+use Rattle.std.proofs.Common.{◌≡◌, ℕ, ◌+◌, Bool, true, false, cond, not, ◌&&◌, List, [], ◌∷◌, sym, refl, ap, arith}
 use Rattle.heights.specs.Order.{Preorder, level}
-use Rattle.counters.specs.Held.{tally, up_to, has_level, distinct, above, between}
+use Rattle.counters.specs.Held.{tally, up_to, has_level, distinct, between}
 use Rattle.counters.specs.Calls.{finger_steps}
-use Rattle.counters.proofs.Preorders.{never_true, level_parts, blind_up_to, blind_from}
+use Rattle.counters.proofs.Preorders.{level_parts, blind_up_to, blind_from}
 
 -- ---- tests that agree at every height
 

@@ -1,5 +1,5 @@
 -- What a layer shows of the counter below, and when it remembers rightly.
-use Rattle.std.specs.Prelude.{◌≡◌, ℕ, ◌^◌, ◌≤◌, Bool, true, Some, None, Option}
+use Rattle.std.specs.Prelude.{◌≡◌, ◌^◌, ◌≤◌, Bool, true, Some, None, Option}
 use Rattle.heights.specs.Order.{level}
 use Rattle.counters.specs.declared.counter.Counter.{Ghosts}
 use Rattle.counters.specs.Held.{up_to}

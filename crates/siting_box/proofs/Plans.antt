@@ -1,5 +1,5 @@
 -- What a plan that fits its records gives: bounds of its sizes, and a record for each cell.
-use Rattle.std.proofs.Common.{◌≡◌, ℕ, zero, suc, ◌+◌, ◌-◌, ◌*◌, ◌<◌, ◌≤◌, min, Bool, true, false, cond, ltb, leb, List, [], ◌∷◌, length, get_or, Some, None, Option, sym, refl, ap, ◌∙◌, subst, arith}
+use Rattle.std.proofs.Common.{◌≡◌, ℕ, zero, suc, ◌+◌, ◌-◌, ◌*◌, ◌<◌, ◌≤◌, min, Bool, true, cond, ltb, List, [], ◌∷◌, length, get_or, Some, Option, sym, refl, ap, ◌∙◌, subst, arith}
 use Rattle.std.proofs.lemmas.Nat.{mul-add-lt}
 use Rattle.std.proofs.lemmas.Bool.Decides.{nat_tests}
 use Rattle.std.specs.Option.{option_map}
@@ -7,11 +7,9 @@ use Rattle.std.specs.List.{slice_get}
 use Rattle.grid.specs.declared.Plan.{Plan}
 use Rattle.grid.specs.declared.Place.{Place}
 use Rattle.grid.specs.declared.CellRecord.{CellRecord}
-use Rattle.grid.specs.Terrain.{reading_index}
 use Rattle.grid.specs.Window.{count_at}
 use Rattle.grid.proofs.Sizes.{window_size_is}
-use Rattle.siting_box.specs.declared.told.Told.{Told}
-use Rattle.siting_box.specs.Contents.{contents, fits_in, plan_terrain, is_swept, count_on, Counted}
+use Rattle.siting_box.specs.Contents.{contents, fits_in, plan_terrain, count_on}
 use Rattle.siting_box.specs.Calls.{TellsCount}
 
 -- the facts of a plan that fits

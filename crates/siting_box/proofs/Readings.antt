@@ -1,5 +1,5 @@
 -- Readings of stored heights one after another.
-use Rattle.std.proofs.Common.{◌≡◌, ℕ, zero, suc, ◌+◌, ◌-◌, ◌*◌, ◌<◌, ◌≤◌, Bool, true, false, List, [], ◌∷◌, ◌++◌, is_ok, Ok, Err, Result, sym, refl, ap, ◌∙◌, subst, add-zero, mul-le-mul_right, add-one, arith}
+use Rattle.std.proofs.Common.{◌≡◌, ℕ, zero, suc, ◌+◌, ◌-◌, ◌*◌, ◌<◌, ◌≤◌, Bool, true, false, List, [], ◌∷◌, ◌++◌, is_ok, Ok, Err, Result, sym, refl, ap, ◌∙◌, add-zero, mul-le-mul_right, add-one, arith}
 use Rattle.heights.specs.Meaning.{Storage}
 use Rattle.siting_box.specs.Stored.{stored_at, read_more, read_first}
 use Rattle.siting_box.specs.Fresh.{ok_heights, heights_read}

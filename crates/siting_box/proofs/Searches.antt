@@ -1,5 +1,5 @@
 -- The best cell of those seen so far, and what it is once all cells of a grid were seen.
-use Rattle.std.proofs.Common.{◌≡◌, ℕ, ◌+◌, ◌-◌, ◌*◌, ◌/◌, ◌%◌, ◌<◌, ◌≤◌, Bool, true, false, cond, not, ltb, leb, ◌⊎◌, List, length, get_or, Some, None, Option, sym, refl, ap, ◌∙◌, subst, inl, inr, ⊎_elim, mul_comm, eq-or-lt_of_le, arith, below_more}
+use Rattle.std.proofs.Common.{◌≡◌, ℕ, ◌+◌, ◌*◌, ◌/◌, ◌%◌, ◌<◌, ◌≤◌, Bool, true, false, cond, not, ltb, leb, ◌⊎◌, List, length, get_or, Some, None, Option, sym, refl, ap, ◌∙◌, subst, inl, inr, ⊎_elim, mul_comm, eq-or-lt_of_le, arith, below_more}
 use Rattle.std.proofs.lemmas.Nat.{mul-add-lt, div-mul-add, mod-mul-add, div-add-mod', div_below, mod_below}
 use Rattle.std.proofs.lemmas.Option.{slice_get-get_or}
 use Rattle.std.proofs.lemmas.Bool.Decides.{nat_tests}
@@ -7,7 +7,7 @@ use Rattle.std.specs.List.{slice_get}
 use Rattle.grid.specs.declared.Place.{Place}
 use Rattle.grid.specs.declared.Higher.{Higher}
 use Rattle.grid.specs.Terrain.{Terrain, Inside, reading_index, height_at}
-use Rattle.grid.specs.Nearest.{squared_distance, is_higher, NearestHigher, Nearest}
+use Rattle.grid.specs.Nearest.{squared_distance, is_higher, Nearest}
 use Rattle.siting_box.specs.Searching.{place_of, nearer_of}
 
 -- of the cells before index n, found is the first of the nearest to p that are higher than own

@@ -1,5 +1,5 @@
 -- Words of the search for the nearest higher cell.
-use Rattle.std.specs.Prelude.{ℕ, ◌/◌, ◌%◌, Bool, cond, Some, None, Option, nat_le}
+use Rattle.std.specs.Prelude.{ℕ, ◌/◌, ◌%◌, cond, Some, None, Option, nat_le}
 use Rattle.grid.specs.declared.Place.{Place}
 use Rattle.grid.specs.declared.Higher.{Higher}
 

@@ -1,10 +1,10 @@
 -- The worked values, computed.
-use Rattle.std.proofs.Common.{◌≡◌, ℕ, zero, suc, ◌<◌, ◌≤◌, Bool, true, false, [], ◌∷◌, ℤ, pos, refl, ◌∙◌, arith, rules}
+use Rattle.std.proofs.Common.{◌≡◌, ℕ, zero, suc, ◌<◌, true, false, pos, refl, ◌∙◌, arith, rules}
 use Rattle.std.proofs.lemmas.Bool.{false≢true}
 use lib.Signed.{le_z}
 use Rattle.heights.specs.Order.{Preorder}
 use Rattle.grid.specs.declared.Place.{Place}
-use Rattle.grid.specs.Terrain.{Inside, reading_index, height_at}
+use Rattle.grid.specs.Terrain.{reading_index, height_at}
 use Rattle.grid.specs.Nearest.{squared_distance, is_higher}
 use Rattle.counters.specs.Calls.{mileage_after}
 use Rattle.sweep.proofs.Defaults.{height_or}

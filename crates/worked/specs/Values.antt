@@ -1,5 +1,5 @@
 -- A small plan worked by hand: 3 columns, 2 rows, radius 1, whole metres; row 0 is 5 7 7, row 1 is 3 5 9.
-use Rattle.std.specs.Prelude.{◌≡◌, ℕ, ◌+◌, [], ◌∷◌, map, ℤ, pos, Some, None, int_le}
+use Rattle.std.specs.Prelude.{◌≡◌, ℕ, [], ◌∷◌, map, ℤ, pos, Some, None, int_le}
 use Rattle.grid.specs.declared.Place.{Place}
 use Rattle.grid.specs.Terrain.{Terrain, cells}
 use Rattle.grid.specs.Window.{count_at}

@@ -1,4 +1,4 @@
-use Rattle.std.proofs.Common.{Some, None, subst}
+use Rattle.std.proofs.Common.{None, subst}
 use Rattle.console_text.specs.declared.commands.Command.TheVariants.{Choose}
 use Rattle.console.specs.Sessions.{ChosenBy}
 use Rattle.console.proofs.session.choose.Goals as goal

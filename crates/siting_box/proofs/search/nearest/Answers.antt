@@ -1,11 +1,8 @@
-use Rattle.std.proofs.Common.{◌≡◌, ◌+◌, ◌*◌, ◌/◌, ◌%◌, ◌<◌, Bool, true, false, length, get_or, sym, ap, ◌∙◌, subst, mul_comm, arith}
+use Rattle.std.proofs.Common.{◌≡◌, ◌+◌, ◌*◌, ◌<◌, length, get_or, sym, ap, ◌∙◌, subst, mul_comm, arith}
 use lib.ListN.{length-map}
 use Rattle.std.proofs.lemmas.Nat.{mul-add-lt, div_below, mod_below}
 use Rattle.grid.specs.declared.Place.{Place}
-use Rattle.grid.specs.declared.Higher.{Higher}
-use Rattle.grid.specs.Nearest.{squared_distance}
 use Rattle.grid.specs.Terrain.{heights_of}
-use Rattle.siting_box.specs.Searching.{place_of, nearer_of}
 use Rattle.siting_box.proofs.Searches.{SoFar, passes, weighed, best-is-nearest}
 use Rattle.siting_box.proofs.search.nearest.Goals as goal
 use Rattle.siting_box.proofs.search.nearest.Goals.{then-not-is_not_higher, else-not-is_not_higher}

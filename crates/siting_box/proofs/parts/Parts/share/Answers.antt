@@ -1,4 +1,4 @@
-use Rattle.std.proofs.Common.{◌≡◌, refl, ap, ◌∙◌, rules}
+use Rattle.std.proofs.Common.{◌≡◌, ap, ◌∙◌}
 use Rattle.grid.specs.Window.{share_of}
 use Rattle.siting_box.specs.Contents.{radius_of}
 use Rattle.siting_box.proofs.parts.Parts.share.Goals as goal

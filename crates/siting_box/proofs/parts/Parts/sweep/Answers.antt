@@ -1,4 +1,4 @@
-use Rattle.std.proofs.Common.{◌≡◌, ◌-◌, ◌*◌, true, ◌++◌, length, take, drop, sym, refl, ap, ◌∙◌, subst, arith, length-take}
+use Rattle.std.proofs.Common.{◌≡◌, ◌-◌, ◌*◌, true, ◌++◌, length, take, drop, sym, refl, ap, subst, arith, length-take}
 use Rattle.siting_box.specs.Contents.{contents, well_fitted, fits_in}
 use Rattle.siting_box.proofs.Places.{rejoined, denied_places}
 use Rattle.siting_box.proofs.Plans.{fitting}

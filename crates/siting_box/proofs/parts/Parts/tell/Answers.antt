@@ -1,4 +1,4 @@
-use Rattle.std.proofs.Common.{◌≡◌, true, length, sym, ap, ◌∙◌, subst, arith, rules}
+use Rattle.std.proofs.Common.{◌≡◌, true, length, subst, arith, rules}
 use Rattle.siting_box.specs.Contents.{well_fitted, fits_in}
 use Rattle.siting_box.proofs.Plans.{cell_recorded, tells_count}
 use Rattle.siting_box.proofs.parts.Parts.tell.Goals as goal
