@@ -1,6 +1,6 @@
 -- The counts of all cells of a grid together, and the pairs of cells in each other's windows.
 use Rattle.std.specs.Prelude.{◌≡◌, ℕ, ◌+◌, ◌*◌, ◌<◌, ◌≤◌, Bool, ◌&&◌, List, [], ◌∷◌, ◌++◌, map, length, sum_by, Option}
-use Rattle.std.specs.List.{AllByRecursion as All}
+use Rattle.std.specs.List.{AllByRecursion}
 use Rattle.heights.specs.Tally.{tally}
 use Rattle.grid.specs.declared.Place.{Place}
 use Rattle.grid.specs.Terrain.{Terrain, cells, reading_index, height_at}
@@ -45,4 +45,4 @@ pub record CountsBounded {X : Type 0} (le : X → X → Bool) : Type 0 where
 
 -- the cells of a pair are different: the first comes earlier in reading order
 abbrev pub PairsInOrder : Type 0
-PairsInOrder = (width rows : ℕ) → All (λ (pair : Place × Place). reading_index width pair.0 < reading_index width pair.1) (cell_pairs width rows)
+PairsInOrder = (width rows : ℕ) → AllByRecursion (λ (pair : Place × Place). reading_index width pair.0 < reading_index width pair.1) (cell_pairs width rows)
