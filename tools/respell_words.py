@@ -12,9 +12,16 @@ import sys
 
 DECLARED = re.compile(r"^(?:(?:abbrev|unfoldable|pub|data|record|ruleset)\s+)*([^\s:(){}\[\],.]+)(?:\s+[({].*)?\s*:(?:\s+(.*))?$")
 FIELD = re.compile(r"^\s+(?:pub )?([^\s:(){}\[\],.]+) : ")
+NESTED = re.compile(r"^( {2,})(?:(?:abbrev|unfoldable|pub)\s+)*([^\s:(){}\[\],.]+)(?:\s+[({].*)?\s*: ")
 GHOST = re.compile(r"^\s*(?:pub )?ghost ([A-Za-z_'-]+)[ :=]")
 # names that would fall together with another's, or that speak of an older word
 SPECIAL = {
+    "height-or": "height_is",
+    "column-or": "column_is",
+    "columns-or": "columns_are",
+    "turn-or": "turn_is",
+    "mended-count": "mended_on_record",
+    "inWindow": "among_window",
     "getD-bytesOf": "get_or_bytes_of",
     "from-letter": "from_letter_of_letter",
     "letter-of": "letter_of_form",
@@ -45,7 +52,17 @@ def gather():
     for path in antt_files():
         answers = re.search(r"/(Answers|Invariants|Proof)\.antt$", path)
         block = None
-        for line in open(path, encoding="utf-8"):
+        lines = open(path, encoding="utf-8").read().split("\n")
+        # within a module or a where: the name is defined below its type, as far to the right
+        for number, line in enumerate(lines):
+            inner = NESTED.match(line)
+            if inner and not inner[2][0].isupper():
+                below = re.compile(re.escape(inner[1] + inner[2]) + r"(?![\w\-'′]).*=")
+                if any(below.match(later) for later in lines[number + 1:number + 12]):
+                    names.add(inner[2])
+        for line in lines:
+            if line.startswith("module _"):
+                block = None
             head = DECLARED.match(line)
             if head and not line.startswith(("use ", "pub use ", "--", "mod ", "pub mod ", "let ", "in ")):
                 kind = re.match(r"(?:pub )?(record|data)\b", line)
@@ -65,6 +82,14 @@ def gather():
                 fields.add(ghost[1])
                 names.add(ghost[1])
     return names, fields, goals
+
+
+# what a file imports from the library and the logic: such a name is not the repository's own
+def brought(text):
+    names = set()
+    for line in re.findall(r"^(?:pub )?use (?:Rattle\.std|lib|borrow|denote)\b[^\n{]*\{([^}]*)\}", text, re.M):
+        names.update(name.strip() for name in line.split(","))
+    return names
 
 
 def respelled(names, fields, goals):
@@ -113,10 +138,11 @@ def main():
         print("also a goal:", name)
     texts = {}
     for path in antt_files():
-        own = dict(table)
+        text = open(path, encoding="utf-8").read()
+        own = {old: new for old, new in table.items() if old not in brought(text)}
         for start, more in IN_CRATE.items():
             own.update(more if path.startswith(start) else {})
-        texts[path] = respell(open(path, encoding="utf-8").read(), own, fields, False)
+        texts[path] = respell(text, own, fields, False)
     for path in rt_files() + sorted(glob.glob("crates/*/must-fail/*.edit")):
         texts[path] = respell(open(path, encoding="utf-8").read(), table, fields, True)
     for path in sorted(glob.glob("docs/*.md")) + ["README.md"]:

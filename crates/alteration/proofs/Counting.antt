@@ -84,47 +84,47 @@ module _ {X : Type 0} (le : X → X → Bool) (t : Terrain X) (r x y : ℕ) (old
   after = changed t (y * t.width + x) new
 
   -- the height that was replaced
-  pub own-height : x < t.width → y * t.width + x < length t.heights → height_at after here ≡ Some new
-  own-height inx lt =
+  pub own_height : x < t.width → y * t.width + x < length t.heights → height_at after here ≡ Some new
+  own_height inx lt =
       ap (λ b. cond b (slice_get (set t.heights (y * t.width + x) new) (y * t.width + x)) None) (lt-ltb x t.width inx)
       ∙ nth_set_same t.heights (y * t.width + x) new lt
 
   -- the heights that were not replaced
-  pub other-height : (a b : ℕ) → x < t.width → a < t.width → ((a ≡ x) × (b ≡ y) → ⊥) → height_at after (record { x = a; y = b }) ≡ height_at t (record { x = a; y = b })
-  other-height a b inx ina ne =
+  pub other_height : (a b : ℕ) → x < t.width → a < t.width → ((a ≡ x) × (b ≡ y) → ⊥) → height_at after (record { x = a; y = b }) ≡ height_at t (record { x = a; y = b })
+  other_height a b inx ina ne =
       ap (λ o. cond (ltb a t.width) o None) (nth_set_other t.heights (y * t.width + x) (b * t.width + a) new (λ e. ne (same_cell t.width a b x y ina inx e)))
 
   -- the count of another cell loses what the old height added, and gains what the new height adds
-  pub count-changed : (x' y' : ℕ) (h : X) → x < t.width → y < t.rows → y * t.width + x < length t.heights → height_at t here ≡ Some old
+  pub count_changed : (x' y' : ℕ) (h : X) → x < t.width → y < t.rows → y * t.width + x < length t.heights → height_at t here ≡ Some old
       → x' < t.width → ((x' ≡ x) × (y' ≡ y) → ⊥) → height_at t (record { x = x'; y = y' }) ≡ Some h
       → count_at le after r (record { x = x'; y = y' }) + cond (reaches r (record { x = x'; y = y' }) here && le old h) 1 0
       ≡ count_at le t r (record { x = x'; y = y' }) + cond (reaches r (record { x = x'; y = y' }) here && le new h) 1 0
-  count-changed x' y' h inx iny lt was inx' ne own =
+  count_changed x' y' h inx iny lt was inx' ne own =
       let q : Place = record { x = x'; y = y' } in
-      let kept : height_at after q ≡ height_at t q = other-height x' y' inx inx' ne in
+      let kept : height_at after q ≡ height_at t q = other_height x' y' inx inx' ne in
       let f : ℕ → ℕ → ℕ = cell_count le t r q in
       let g : ℕ → ℕ → ℕ = cell_count le after r q in
       let same : (a b : ℕ) → a < t.width → ((a ≡ x) × (b ≡ y) → ⊥) → f a b ≡ g a b =
-      (λ a b ina apart. same_bit le (reaches r q (record { x = a; y = b })) (sym (other-height a b inx ina apart)) (sym kept)) in
+      (λ a b ina apart. same_bit le (reaches r q (record { x = a; y = b })) (sym (other_height a b inx ina apart)) (sym kept)) in
       let loss : f x y ≡ cond (reaches r q here && le old h) 1 0 = same_bit le (reaches r q here) was own in
-      let gain : g x y ≡ cond (reaches r q here && le new h) 1 0 = same_bit le (reaches r q here) (own-height inx lt) (kept ∙ own) in
+      let gain : g x y ≡ cond (reaches r q here && le new h) 1 0 = same_bit le (reaches r q here) (own_height inx lt) (kept ∙ own) in
       omega (arith, count_total le t r q, count_total le after r q, grid_change f g t.width t.rows x y inx iny same, loss, gain)
 
   -- the count of another cell in reach
-  pub count-near : (x' y' : ℕ) (h : X) → x < t.width → y < t.rows → y * t.width + x < length t.heights → height_at t here ≡ Some old
+  pub count_near : (x' y' : ℕ) (h : X) → x < t.width → y < t.rows → y * t.width + x < length t.heights → height_at t here ≡ Some old
       → x' < t.width → ((x' ≡ x) × (y' ≡ y) → ⊥) → height_at t (record { x = x'; y = y' }) ≡ Some h → reaches r (record { x = x'; y = y' }) here ≡ true
       → count_at le after r (record { x = x'; y = y' }) + cond (le old h) 1 0 ≡ count_at le t r (record { x = x'; y = y' }) + cond (le new h) 1 0
-  count-near x' y' h inx iny lt was inx' ne own e =
+  count_near x' y' h inx iny lt was inx' ne own e =
       let bit : Bool → Bool → ℕ = λ k b. cond (b && k) 1 0 in
-      omega (arith, count-changed x' y' h inx iny lt was inx' ne own, ap (bit (le old h)) e, ap (bit (le new h)) e)
+      omega (arith, count_changed x' y' h inx iny lt was inx' ne own, ap (bit (le old h)) e, ap (bit (le new h)) e)
 
   -- the count of a cell out of reach
-  pub count-far : (x' y' : ℕ) (h : X) → x < t.width → y < t.rows → y * t.width + x < length t.heights → height_at t here ≡ Some old
+  pub count_far : (x' y' : ℕ) (h : X) → x < t.width → y < t.rows → y * t.width + x < length t.heights → height_at t here ≡ Some old
       → x' < t.width → ((x' ≡ x) × (y' ≡ y) → ⊥) → height_at t (record { x = x'; y = y' }) ≡ Some h → reaches r (record { x = x'; y = y' }) here ≡ false
       → count_at le after r (record { x = x'; y = y' }) ≡ count_at le t r (record { x = x'; y = y' })
-  count-far x' y' h inx iny lt was inx' ne own e =
+  count_far x' y' h inx iny lt was inx' ne own e =
       let bit : Bool → Bool → ℕ = λ k b. cond (b && k) 1 0 in
-      omega (arith, count-changed x' y' h inx iny lt was inx' ne own, ap (bit (le old h)) e, ap (bit (le new h)) e)
+      omega (arith, count_changed x' y' h inx iny lt was inx' ne own, ap (bit (le old h)) e, ap (bit (le new h)) e)
 
 -- the count of a cell is that of the cells of the part in its reach that are not higher
 module _ {X : Type 0} (le : X → X → Bool) (t : Terrain X) (r x y : ℕ) (h : X) where
@@ -147,15 +147,15 @@ module _ {X : Type 0} (le : X → X → Bool) (t : Terrain X) (r x y : ℕ) (h :
       ∙ (ap (λ o. cond (is_not_higher le o (height_at t at)) 1 0) there
       ∙ ap (λ o. cond (is_not_higher le (Some (get_or t.heights (b * t.width + a) h)) o) 1 0) own))
 
-  out-of-columns : (a b : ℕ) → near r x a ≡ false → cell_count le t r at a b ≡ 0
-  out-of-columns a b z = ap (λ c. cond ((c && near r y b) && is_not_higher le (height_at t (record { x = a; y = b })) (height_at t at)) 1 0) z
+  out_of_columns : (a b : ℕ) → near r x a ≡ false → cell_count le t r at a b ≡ 0
+  out_of_columns a b z = ap (λ c. cond ((c && near r y b) && is_not_higher le (height_at t (record { x = a; y = b })) (height_at t at)) 1 0) z
 
-  out-of-rows : (a b : ℕ) → near r y b ≡ false → cell_count le t r at a b ≡ 0
-  out-of-rows a b z = ap (λ c. cond (c && is_not_higher le (height_at t (record { x = a; y = b })) (height_at t at)) 1 0) (and_right (near r x a) (near r y b) z)
+  out_of_rows : (a b : ℕ) → near r y b ≡ false → cell_count le t r at a b ≡ 0
+  out_of_rows a b z = ap (λ c. cond (c && is_not_higher le (height_at t (record { x = a; y = b })) (height_at t at)) 1 0) (and_right (near r x a) (near r y b) z)
 
-  pub count-anew : x < t.width → y < t.rows → length t.heights ≡ t.width * t.rows → height_at t at ≡ Some h
+  pub count_anew : x < t.width → y < t.rows → length t.heights ≡ t.width * t.rows → height_at t at ≡ Some h
       → count_at le t r at ≡ tally test (flat_map (λ b. range_with_len (b * t.width + (x - r)) (min t.width (x + r + 1) - (x - r))) (range_with_len (y - r) (min t.rows (y + r + 1) - (y - r))))
-  count-anew inx iny whole own =
+  count_anew inx iny whole own =
       let w = t.width in
       let left = x - r in
       let right = min w (x + r + 1) in
@@ -164,13 +164,13 @@ module _ {X : Type 0} (le : X → X → Bool) (t : Terrain X) (r x y : ℕ) (h :
       let F : ℕ → ℕ = λ b. total (λ a. cell_count le t r at a b) 0 w in
       let G : ℕ → ℕ = λ b. tally test (range_with_len (b * w + left) (right - left)) in
       let rows = total_part F t.rows top bottom (omega arith) (omega arith)
-      (λ b low. total_none (λ a. cell_count le t r at a b) 0 w (λ a _ _. out-of-rows a b (near_low r y b low)))
-      (λ b high under. total_none (λ a. cell_count le t r at a b) 0 w (λ a _ _. out-of-rows a b (near_high r y b (omega arith)))) in
+      (λ b low. total_none (λ a. cell_count le t r at a b) 0 w (λ a _ _. out_of_rows a b (near_low r y b low)))
+      (λ b high under. total_none (λ a. cell_count le t r at a b) 0 w (λ a _ _. out_of_rows a b (near_high r y b (omega arith)))) in
       let row : (b : ℕ) → top ≤ b → b < bottom → F b ≡ G b =
       (λ b p q.
       total_part (λ a. cell_count le t r at a b) w left right (omega arith) (omega arith)
-      (λ a low. out-of-columns a b (near_low r x a low))
-      (λ a high under. out-of-columns a b (near_high r x a (omega arith)))
+      (λ a low. out_of_columns a b (near_low r x a low))
+      (λ a high under. out_of_columns a b (near_high r x a (omega arith)))
       ∙ (total_ext (λ a. cell_count le t r at a b) (λ a. bit (b * w + a)) left (right - left)
       (λ a u v. in_window a b own whole (omega arith) (omega arith) (near_yes r x a u (omega arith)) (near_yes r y b p (omega arith)))
       ∙ (total_shift bit (b * w) left (right - left) ∙ sym (tally_range test (b * w + left) (right - left))))) in

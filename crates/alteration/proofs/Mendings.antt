@@ -17,14 +17,14 @@ mended_right false false n m few e = omega arith
 
 module _ {X : Type 0} {le : X → X → Bool} {old new : X} where
   -- nothing is mended
-  pub mended-none : (P : ℕ → Type 0) (records : List (CellRecord X)) → ((i : ℕ) → P i → ⊥) → Mended le old new P records records
-  mended-none P records none = record { heights = refl; inside = λ i d p. absurd (none i p); others = λ i d out. refl }
+  pub mended_none : (P : ℕ → Type 0) (records : List (CellRecord X)) → ((i : ℕ) → P i → ⊥) → Mended le old new P records records
+  mended_none P records none = record { heights = refl; inside = λ i d p. absurd (none i p); others = λ i d out. refl }
 
   -- some counts are mended after others
-  pub mended-then : (P Q R : ℕ → Type 0) {before during later : List (CellRecord X)}
+  pub mended_then : (P Q R : ℕ → Type 0) {before during later : List (CellRecord X)}
       → ((i : ℕ) → P i → Q i → ⊥) → ((i : ℕ) → P i → R i) → ((i : ℕ) → Q i → R i) → ((i : ℕ) → R i → P i ⊎ Q i)
       → Mended le old new P before during → Mended le old new Q during later → Mended le old new R before later
-  mended-then P Q R {before = before} {during = during} {later = later} apart first second either m n = record {
+  mended_then P Q R {before = before} {during = during} {later = later} apart first second either m n = record {
     heights = n.heights ∙ m.heights;
     inside = λ i d r.
         ⊎_elim
@@ -35,8 +35,8 @@ module _ {X : Type 0} {le : X → X → Bool} {old new : X} where
   }
 
   -- the same counts, told otherwise
-  pub mended-like : (P Q : ℕ → Type 0) {before later : List (CellRecord X)} → ((i : ℕ) → P i → Q i) → ((i : ℕ) → Q i → P i) → Mended le old new P before later → Mended le old new Q before later
-  mended-like P Q on back m = record {
+  pub mended_like : (P Q : ℕ → Type 0) {before later : List (CellRecord X)} → ((i : ℕ) → P i → Q i) → ((i : ℕ) → Q i → P i) → Mended le old new P before later → Mended le old new Q before later
+  mended_like P Q on back m = record {
     heights = m.heights;
     inside = λ i d q. m.inside i d (back i q);
     others = λ i d out. m.others i d (λ p. out (on i p));
@@ -85,10 +85,10 @@ row_below y m w lt =
 
 module _ {X : Type 0} {le : X → X → Bool} {old new : X} where
   -- one count more is mended
-  pub cell-more : (start index : ℕ) {before during later : List (CellRecord X)} → start ≤ index
+  pub cell_more : (start index : ℕ) {before during later : List (CellRecord X)} → start ≤ index
       → Mended le old new (Between start index) before during → Mended le old new (λ i. i ≡ index) during later → Mended le old new (Between start (index + 1)) before later
-  cell-more start index low m n =
-      mended-then (Between start index) (λ i. i ≡ index) (Between start (index + 1))
+  cell_more start index low m n =
+      mended_then (Between start index) (λ i. i ≡ index) (Between start (index + 1))
       (λ i p q. omega (arith, p.1, q))
       (λ i p. (p.0, omega (arith, p.1)))
       (λ i q. (omega (arith, q), omega (arith, q)))
@@ -100,7 +100,7 @@ module _ {X : Type 0} {le : X → X → Bool} {old new : X} where
       → Mended le old new (InRows p y) before during → Mended le old new (Between (y * p.width + p.left) (y * p.width + p.right)) during later → Mended le old new (InRows p (y + 1)) before later
   row_more p y narrow low m n =
       let w = p.width in
-      mended-then (InRows p y) (Between (y * w + p.left) (y * w + p.right)) (InRows p (y + 1))
+      mended_then (InRows p y) (Between (y * w + p.left) (y * w + p.right)) (InRows p (y + 1))
       (λ i s q. omega (arith, row_below s.row y w s.rows.1, s.columns.1, s.index, q.0, narrow))
       (λ i s. record { column = s.column; row = s.row; columns = s.columns; rows = (s.rows.0, omega (arith, s.rows.1)); index = s.index })
       (λ i q. record { column = i - y * w; row = y; columns = (omega (arith, q.0), omega (arith, q.0, q.1)); rows = (low, omega arith); index = omega (arith, q.0) })
@@ -115,7 +115,7 @@ module _ {X : Type 0} {le : X → X → Bool} {old new : X} where
   -- after the last row the part is mended
   pub rows_end : (p : Part) (y : ℕ) {before later : List (CellRecord X)} → y ≤ max p.top p.bottom → p.bottom ≤ y → Mended le old new (InRows p y) before later → Mended le old new (InPart p) before later
   rows_end p y most least m =
-      mended-like (InRows p y) (InPart p)
+      mended_like (InRows p y) (InPart p)
       (λ i s. record { column = s.column; row = s.row; columns = s.columns; rows = (s.rows.0, omega (arith, s.rows.0, s.rows.1)); index = s.index })
       (λ i s. record { column = s.column; row = s.row; columns = s.columns; rows = (s.rows.0, omega (arith, s.rows.1)); index = s.index })
       m

@@ -15,7 +15,7 @@ use Rattle.alteration.specs.declared.part.Part.{Part}
 use Rattle.alteration.specs.Altering.{CountedAt, Altered}
 use Rattle.alteration.specs.Mending.{Mended, not_above}
 use Rattle.alteration.specs.Parts.{Alterable, part_around, indices_of}
-use Rattle.alteration.proofs.Counting.{same_cell, changed, own-height, count-near, count-far, count-anew, count_le}
+use Rattle.alteration.proofs.Counting.{same_cell, changed, own_height, count_near, count_far, count_anew, count_le}
 use Rattle.alteration.proofs.Mendings.{InRows, mended_right, row_below}
 
 -- two tests in either order
@@ -152,7 +152,7 @@ module _ {X : Type 0} (le : X → X → Bool) (plan : Plan) (at : Place) (old he
       let long : length (set (heights_of before) index height) ≡ plan.width * plan.rows = length-set (heights_of before) index height ∙ (length-map before (λ c. c.height) ∙ ok.whole) in
       again.counted low d
       ∙ (ap (λ hs. tally (λ i. le (get_or hs i height) height) (indices_of (part_around plan at))) written_heights
-      ∙ sym (count-anew le (changed t index height) plan.radius at.x at.y height ok.column ok.row long (own-height le t plan.radius at.x at.y old height ok.column inside_heights)))
+      ∙ sym (count_anew le (changed t index height) plan.radius at.x at.y height ok.column ok.row long (own_height le t plan.radius at.x at.y old height ok.column inside_heights)))
 
   -- so it is in the grid as it is then
   own_counted : (d : CellRecord X) → at.y < plan.swept → CountedAt le plan.width plan.rows plan.radius after at.x at.y d
@@ -180,12 +180,12 @@ module _ {X : Type 0} (le : X → X → Bool) (plan : Plan) (at : Place) (old he
       let rows = near_parts r y b parts.1 in
       let s : InRows (part_around plan at) (min (part_around plan at).bottom plan.swept) (b * w + a) = record { column = a; row = b; columns = (columns.0, omega (arith, columns.1)); rows = (rows.0, omega (arith, rows.1, ok.swept_few)); index = refl } in
       let few = count_le le t r (record { x = a; y = b }) ok.wide ok.deep in
-      let change = count-near le t r x y old height a b h ok.column ok.row inside_heights was ina apart own (sym (reaches_swap r x y a b) ∙ reached) in
+      let change = count_near le t r x y old height a b h ok.column ok.row inside_heights was ina apart own (sym (reaches_swap r x y a b) ∙ reached) in
       count_of (other_record (b * w + a) d ne ∙ m.inside (b * w + a) d s)
       ∙ mended_right (le height h) (le old h) (get_or before (b * w + a) d).count (count_at le (changed t index height) r (record { x = a; y = b })) (omega (arith, few, right)) (omega (arith, change, right)))
       (λ (out : reaches r (record { x = x; y = y }) (record { x = a; y = b }) ≡ false).
       count_of (keeps_beyond a b d ina inb out)
-      ∙ (right ∙ sym (count-far le t r x y old height a b h ok.column ok.row inside_heights was ina apart own (sym (reaches_swap r x y a b) ∙ out))))
+      ∙ (right ∙ sym (count_far le t r x y old height a b h ok.column ok.row inside_heights was ina apart own (sym (reaches_swap r x y a b) ∙ out))))
       (cases_Bool (reaches r (record { x = x; y = y }) (record { x = a; y = b })))
 
   -- each count of a swept row that was right is so again

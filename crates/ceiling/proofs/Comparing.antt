@@ -11,7 +11,7 @@ use Rattle.grid.specs.declared.Place.{Place}
 use Rattle.grid.specs.Terrain.{Terrain, Inside, height_at}
 use Rattle.grid.specs.Window.{is_not_higher}
 use Rattle.sweep.specs.Walk.{band_top, band_rows}
-use Rattle.sweep.proofs.Defaults.{height_or, height-or}
+use Rattle.sweep.proofs.Defaults.{height_or, height_is}
 use Rattle.ceiling.specs.Laws.{EqualSteps, SameSteps}
 use Rattle.grid.specs.Alike.{AllHeights, Alike}
 use Rattle.ceiling.proofs.Ceiling.{row_mileage}
@@ -52,7 +52,7 @@ place_height : {X : Type 0} (d : X) (t : Terrain X) → AllHeights t → 0 < t.w
 place_height d t all wide x y lt =
     let i = y * t.width + x in
     let u = place_inside t all wide x y lt in
-    height-or d t all (i % t.width) (i / t.width) u.0 u.1 ∙ ap (λ k. Some (get_or t.heights k d)) (div-add-mod' i t.width)
+    height_is d t all (i % t.width) (i / t.width) u.0 u.1 ∙ ap (λ k. Some (get_or t.heights k d)) (div-add-mod' i t.width)
 
 -- a place at which two grids have what they have, or the defaults, at column x and row y
 record Seat {X Y : Type 0} (d : X) (d' : Y) (t : Terrain X) (t' : Terrain Y) (x y : ℕ) : Type 0 where

@@ -9,7 +9,7 @@ use Rattle.counters.specs.Held.{has_level}
 use Rattle.counters.specs.Calls.{finger_steps}
 use Rattle.counters.proofs.Preorders.{level_self}
 use Rattle.grid.specs.Terrain.{Terrain, height_at}
-use Rattle.sweep.proofs.Defaults.{height_or, height-or}
+use Rattle.sweep.proofs.Defaults.{height_or, height_is}
 use Rattle.sweep.proofs.Totals.{total, total_ext, total_add, total_swap}
 use Rattle.grid.specs.Alike.{AllHeights}
 use Rattle.ceiling.specs.Roughness.{climb, climbs_from, roughness}
@@ -44,10 +44,10 @@ module _ {X : Type 0} (le : X → X → Bool) (d : X) (t : Terrain X) (all : All
   south x y = climb le t.heights (height_at t (record { x = x; y = y })) (height_at t (record { x = x; y = y + 1 }))
 
   -- a row's climbs in the east
-  east-row : (y : ℕ) → y < t.rows → total (λ x. east x y) 0 t.width ≡ total (λ x. across le t.heights (height_or d t) x y) 0 (t.width - 1)
-  east-row y iny =
+  east_row : (y : ℕ) → y < t.rows → total (λ x. east x y) 0 t.width ≡ total (λ x. across le t.heights (height_or d t) x y) 0 (t.width - 1)
+  east_row y iny =
       total_but_last (λ x. east x y) (λ x. across le t.heights (height_or d t) x y) t.width
-      (λ x l. climb_some le t.heights (height_at t (record { x = x; y = y })) (height_at t (record { x = x + 1; y = y })) (height_or d t x y) (height_or d t (x + 1) y) (height-or d t all x y (omega arith) iny) (height-or d t all (x + 1) y l iny))
+      (λ x l. climb_some le t.heights (height_at t (record { x = x; y = y })) (height_at t (record { x = x + 1; y = y })) (height_or d t x y) (height_or d t (x + 1) y) (height_is d t all x y (omega arith) iny) (height_is d t all (x + 1) y l iny))
       (λ x e. climb_none le t.heights (height_at t (record { x = x; y = y })) (height_at t (record { x = x + 1; y = y }))
       (ap (λ b. cond b (slice_get t.heights (y * t.width + (x + 1))) None) (le-ltb (x + 1) t.width (omega arith))))
 
@@ -58,26 +58,26 @@ module _ {X : Type 0} (le : X → X → Bool) (d : X) (t : Terrain X) (all : All
       ap (λ b. cond b (slice_get t.heights ((y + 1) * t.width + x)) None) (lt-ltb x t.width inx) ∙ slice_get_past t.heights ((y + 1) * t.width + x) (omega (arith, size))
 
   -- a column's climbs in the south
-  south-column : (x : ℕ) → x < t.width → total (λ y. south x y) 0 t.rows ≡ total (λ y. down le t.heights (height_or d t) x y) 0 (t.rows - 1)
-  south-column x inx =
+  south_column : (x : ℕ) → x < t.width → total (λ y. south x y) 0 t.rows ≡ total (λ y. down le t.heights (height_or d t) x y) 0 (t.rows - 1)
+  south_column x inx =
       total_but_last (λ y. south x y) (λ y. down le t.heights (height_or d t) x y) t.rows
-      (λ y l. climb_some le t.heights (height_at t (record { x = x; y = y })) (height_at t (record { x = x; y = y + 1 })) (height_or d t x y) (height_or d t x (y + 1)) (height-or d t all x y inx (omega arith)) (height-or d t all x (y + 1) inx l))
+      (λ y l. climb_some le t.heights (height_at t (record { x = x; y = y })) (height_at t (record { x = x; y = y + 1 })) (height_or d t x y) (height_or d t x (y + 1)) (height_is d t all x y inx (omega arith)) (height_is d t all x (y + 1) inx l))
       (λ y e. climb_none le t.heights (height_at t (record { x = x; y = y })) (height_at t (record { x = x; y = y + 1 })) (below_none x y inx e))
 
   -- the roughness: the pairs one above the other and the pairs side by side
-  pub roughness-is : roughness le t ≡ total (λ x. total (λ y. down le t.heights (height_or d t) x y) 0 (t.rows - 1)) 0 t.width + total (λ x. total (λ y. across le t.heights (height_or d t) x y) 0 t.rows) 0 (t.width - 1)
-  roughness-is =
+  pub roughness_is : roughness le t ≡ total (λ x. total (λ y. down le t.heights (height_or d t) x y) 0 (t.rows - 1)) 0 t.width + total (λ x. total (λ y. across le t.heights (height_or d t) x y) 0 t.rows) 0 (t.width - 1)
+  roughness_is =
       let w = t.width in
       let h = t.rows in
       let e0 = sum_cells (climbs_from le t) w h in
       let e1 = total_ext (λ y. total (λ x. east x y + south x y) 0 w) (λ y. total (λ x. east x y) 0 w + total (λ x. south x y) 0 w) 0 h (λ y p q. total_add (λ x. east x y) (λ x. south x y) 0 w) in
       let e2 = total_add (λ y. total (λ x. east x y) 0 w) (λ y. total (λ x. south x y) 0 w) 0 h in
-      let e3 = total_ext (λ y. total (λ x. east x y) 0 w) (λ y. total (λ x. across le t.heights (height_or d t) x y) 0 (w - 1)) 0 h (λ y p q. east-row y (omega arith)) in
+      let e3 = total_ext (λ y. total (λ x. east x y) 0 w) (λ y. total (λ x. across le t.heights (height_or d t) x y) 0 (w - 1)) 0 h (λ y p q. east_row y (omega arith)) in
       let e4 = total_swap (λ y x. across le t.heights (height_or d t) x y) 0 h 0 (w - 1) in
       let e5 = total_swap (λ y x. south x y) 0 h 0 w in
-      let e6 = total_ext (λ x. total (λ y. south x y) 0 h) (λ x. total (λ y. down le t.heights (height_or d t) x y) 0 (h - 1)) 0 w (λ x p q. south-column x (omega arith)) in
+      let e6 = total_ext (λ x. total (λ y. south x y) 0 h) (λ x. total (λ y. down le t.heights (height_or d t) x y) 0 (h - 1)) 0 w (λ x p q. south_column x (omega arith)) in
       omega (arith, e0, e1, e2, e3, e4, e5, e6)
 
   -- the heights of the cells are among the grid's
-  pub cell-seen : Preorder le → (x y : ℕ) → x < t.width → y < t.rows → has_level le t.heights (height_or d t x y) ≡ true
-  cell-seen o x y inx iny = has_own o t.heights (y * t.width + x) d (omega (arith, all, mul-add-lt y t.width x t.rows iny inx))
+  pub cell_seen : Preorder le → (x y : ℕ) → x < t.width → y < t.rows → has_level le t.heights (height_or d t x y) ≡ true
+  cell_seen o x y inx iny = has_own o t.heights (y * t.width + x) d (omega (arith, all, mul-add-lt y t.width x t.rows iny inx))

@@ -72,23 +72,23 @@ abbrev height_of : {X : Type 0} → (ℕ → ℕ → X) → ℕ × ℕ → X
 height_of at c = at c.0 c.1
 
 module _ {X : Type 0} (at : ℕ → ℕ → X) (w r top n y : ℕ) where
-  walks-image : (a b : ℕ) → map (height_of at) (walks cell top n a b) ≡ walks at top n a b
-  walks-image a b = map_joined (height_of at) (walk cell top n) (walk at top n) (λ x. map_map (height_of at) (λ j. cell x (walked_row top n x j)) (range_with_len 0 n)) (range_with_len a (b - a))
+  walks_image : (a b : ℕ) → map (height_of at) (walks cell top n a b) ≡ walks at top n a b
+  walks_image a b = map_joined (height_of at) (walk cell top n) (walk at top n) (λ x. map_map (height_of at) (λ j. cell x (walked_row top n x j)) (range_with_len 0 n)) (range_with_len a (b - a))
 
-  turn-image : (x : ℕ) → map (call_image (height_of at)) (turn_of cell w r top n y x) ≡ turn_of at w r top n y x
-  turn-image x =
+  turn_image : (x : ℕ) → map (call_image (height_of at)) (turn_of cell w r top n y x) ≡ turn_of at w r top n y x
+  turn_image x =
       let f : Call (ℕ × ℕ) → Call X = call_image (height_of at) in
       let a = walks cell top n (taken_before r x) (x - r) in
       let b = walks cell top n (put_before w r x) (min w (x + r + 1)) in
       let e1 = map-append f (map take a) (map put b ++ (ask (cell x y) ∷ [])) in
       let e2 = map-append f (map put b) (ask (cell x y) ∷ []) in
-      let e3 : map f (map take a) ≡ map take (walks at top n (taken_before r x) (x - r)) = takes_image (height_of at) a ∙ ap (map take) (walks-image (taken_before r x) (x - r)) in
-      let e4 : map f (map put b) ≡ map put (walks at top n (put_before w r x) (min w (x + r + 1))) = puts_image (height_of at) b ∙ ap (map put) (walks-image (put_before w r x) (min w (x + r + 1))) in
+      let e3 : map f (map take a) ≡ map take (walks at top n (taken_before r x) (x - r)) = takes_image (height_of at) a ∙ ap (map take) (walks_image (taken_before r x) (x - r)) in
+      let e4 : map f (map put b) ≡ map put (walks at top n (put_before w r x) (min w (x + r + 1))) = puts_image (height_of at) b ∙ ap (map put) (walks_image (put_before w r x) (min w (x + r + 1))) in
       e1 ∙ (ap (λ l. l ++ map f (map put b ++ (ask (cell x y) ∷ []))) e3 ∙ ap (λ l. map take (walks at top n (taken_before r x) (x - r)) ++ l) (e2 ∙ ap (λ l. l ++ (ask (at x y) ∷ [])) e4))
 
   -- the calls of a row are the images of those of its cells
-  row-image : map (call_image (height_of at)) (row_of cell w r top n y) ≡ row_of at w r top n y
-  row-image = map_joined (call_image (height_of at)) (turn_of cell w r top n y) (turn_of at w r top n y) turn-image (range_with_len 0 w)
+  row_image : map (call_image (height_of at)) (row_of cell w r top n y) ≡ row_of at w r top n y
+  row_image = map_joined (call_image (height_of at)) (turn_of cell w r top n y) (turn_of at w r top n y) turn_image (range_with_len 0 w)
 
 -- a row takes equal steps over cells that compare alike
 pub equal_row_steps : {X Y : Type 0} (le : X → X → Bool) (le' : Y → Y → Bool) (at : ℕ → ℕ → X) (at' : ℕ → ℕ → Y) (w r top n y : ℕ)
@@ -99,8 +99,8 @@ equal_row_steps {X} {Y} le le' at at' w r top n y e =
     let g : ℕ × ℕ → Y = height_of at' in
     let same : along f le ≡ along g le' = λ i c d. e c.0 c.1 d.0 d.1 i in
     let calls = row_of cell w r top n y in
-    let s1 = ap (steps_along le (at 0 top) (at 0 top) (at 0 y) []) (row-image at w r top n y) in
-    let s2 = ap (steps_along le' (at' 0 top) (at' 0 top) (at' 0 y) []) (row-image at' w r top n y) in
+    let s1 = ap (steps_along le (at 0 top) (at 0 top) (at 0 y) []) (row_image at w r top n y) in
+    let s2 = ap (steps_along le' (at' 0 top) (at' 0 top) (at' 0 y) []) (row_image at' w r top n y) in
     let t1 = steps_image f le (cell 0 top) (cell 0 top) (cell 0 y) [] calls in
     let t2 = steps_image g le' (cell 0 top) (cell 0 top) (cell 0 y) [] calls in
     sym s1 ∙ (t1 ∙ (ap (λ l. steps_along l (cell 0 top) (cell 0 top) (cell 0 y) [] calls) same ∙ (sym t2 ∙ s2)))

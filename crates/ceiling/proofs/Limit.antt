@@ -12,8 +12,8 @@ use Rattle.sweep.proofs.Turns.{put_before_later}
 use Rattle.ceiling.proofs.Steps.{steps_along}
 use Rattle.ceiling.proofs.Sums.{total_le, total_times, total_front, few, few_times}
 use Rattle.ceiling.proofs.Travel.{puts_of, travel, Among, steps_le_travel, steps_none, nothing_within, all_counting, all_joined}
-use Rattle.ceiling.proofs.Walks.{walk, walks, row_of, row-puts, row-takes, row-asks}
-use Rattle.ceiling.proofs.Ways.{turn_row, travel_map, walk-travel}
+use Rattle.ceiling.proofs.Walks.{walk, walks, row_of, row_puts, row_takes, row_asks}
+use Rattle.ceiling.proofs.Ways.{turn_row, travel_map, walk_travel}
 
 -- ---- a pair of cells one above the other
 
@@ -108,8 +108,8 @@ abbrev pub row_steps : {X : Type 0} → (X → X → Bool) → (ℕ → ℕ → 
 row_steps le at w h r y = steps_along le (at 0 (band_top r y)) (at 0 (band_top r y)) (at 0 y) [] (row_of at w r (band_top r y) (band_rows h r y) y)
 
 module _ {X : Type 0} {le : X → X → Bool} (o : Preorder le) (all : List X) (at : ℕ → ℕ → X) (w h r : ℕ) (wide : 0 < w) (seen : (x y : ℕ) → x < w → y < h → has_level le all (at x y) ≡ true) where
-  walks-among : (y : ℕ) → y < h → Among le all (walks at (band_top r y) (band_rows h r y) 0 w)
-  walks-among y l =
+  walks_among : (y : ℕ) → y < h → Among le all (walks at (band_top r y) (band_rows h r y) 0 w)
+  walks_among y l =
       let top = band_top r y in
       let n = band_rows h r y in
       all_joined (λ k. has_level le all k ≡ true) (walk at top n) 0 (w - 0)
@@ -123,30 +123,30 @@ module _ {X : Type 0} {le : X → X → Bool} (o : Preorder le) (all : List X) (
       let z : suc m - 1 ≡ m = omega arith in
       let s : top + 0 ≡ top = omega arith in
       let e1 = ap (λ b. travel le all (at 0 b) (walks at top (suc m) 0 k)) s in
-      let e2 = walk-travel o all at top m k in
+      let e2 = walk_travel o all at top m k in
       let e3 = ap (λ c. total (λ x. total (λ b. down le all at x b) top c) 0 k) z in
       omega (arith, e1, e2, e3)
 
-  ask-travel : (y : ℕ) → travel le all (at 0 y) (map (λ k. at k y) (range_with_len 0 w)) ≡ total (λ x. across le all at x y) 0 (w - 1)
-  ask-travel y =
+  ask_travel : (y : ℕ) → travel le all (at 0 y) (map (λ k. at k y) (range_with_len 0 w)) ≡ total (λ x. across le all at x y) 0 (w - 1)
+  ask_travel y =
       let z : w ≡ suc (w - 1) = omega arith in
       let e1 = ap (λ k. travel le all (at 0 y) (map (λ k. at k y) (range_with_len 0 k))) z in
       omega (arith, e1, travel_map le all (at 0 y) (λ k. at k y) 0 (w - 1), steps_none le all (at 0 y))
 
   -- a row's steps
-  row-le : (y : ℕ) → y < h → row_steps le at w h r y
+  row_le : (y : ℕ) → y < h → row_steps le at w h r y
       ≤ 2 * (total (λ x. total (λ b. down le all at x b) (band_top r y) (band_rows h r y - 1)) 0 w + total (λ x. across le all at x (turn_row (band_top r y) (band_rows h r y) x)) 0 (w - 1)) + total (λ x. across le all at x y) 0 (w - 1)
-  row-le y l =
+  row_le y l =
       let top = band_top r y in
       let n = band_rows h r y in
       let calls = row_of at w r top n y in
       let d : ℕ → ℕ = λ x. total (λ b. down le all at x b) top (n - 1) in
       let t : ℕ → ℕ = λ x. across le all at x (turn_row top n x) in
       let full : put_before w r w ≡ w = put_before_later w r w wide ∙ (let q : min w (w + r) ≡ w = omega arith in q) in
-      let puts : puts_of calls ≡ walks at top n 0 w = row-puts at w r top n y w (omega arith) ∙ ap (walks at top n 0) full in
-      let takes = row-takes at w r top n y w in
-      let asks = row-asks at w r top n y 0 w in
-      let inside : Among le all (puts_of calls) = subst (λ l. Among le all l) (sym puts) (walks-among y l) in
+      let puts : puts_of calls ≡ walks at top n 0 w = row_puts at w r top n y w (omega arith) ∙ ap (walks at top n 0) full in
+      let takes = row_takes at w r top n y w in
+      let asks = row_asks at w r top n y 0 w in
+      let inside : Among le all (puts_of calls) = subst (λ l. Among le all l) (sym puts) (walks_among y l) in
       let s = steps_le_travel o all (at 0 top) (at 0 top) (at 0 y) [] calls (nothing_within le all) inside in
       let p1 = ap (travel le all (at 0 top)) puts in
       let p2 = ap (travel le all (at 0 top)) takes in
@@ -155,18 +155,18 @@ module _ {X : Type 0} {le : X → X → Bool} (o : Preorder le) (all : List X) (
       let w2 = walk_at top n (taken_before r w) (omega arith) in
       let f1 = total_front d (taken_before r w) w (omega arith) in
       let f2 = total_front t (taken_before r w - 1) (w - 1) (omega arith) in
-      omega (arith, s, p1, p2, p3, w1, w2, ask-travel y, f1, f2)
+      omega (arith, s, p1, p2, p3, w1, w2, ask_travel y, f1, f2)
 
   -- all rows' steps
-  pub rows-le : 1 ≤ r → total (λ y. row_steps le at w h r y) 0 h
+  pub rows_le : 1 ≤ r → total (λ y. row_steps le at w h r y) 0 h
       ≤ (4 * r + 1) * (total (λ x. total (λ y. down le all at x y) 0 (h - 1)) 0 w + total (λ x. total (λ y. across le all at x y) 0 h) 0 (w - 1))
-  rows-le big =
+  rows_le big =
       let v : ℕ → ℕ = λ y. total (λ x. total (λ b. down le all at x b) (band_top r y) (band_rows h r y - 1)) 0 w in
       let t : ℕ → ℕ = λ y. total (λ x. across le all at x (turn_row (band_top r y) (band_rows h r y) x)) 0 (w - 1) in
       let a : ℕ → ℕ = λ y. total (λ x. across le all at x y) 0 (w - 1) in
       let V = total (λ x. total (λ b. down le all at x b) 0 (h - 1)) 0 w in
       let H = total (λ x. total (λ b. across le all at x b) 0 h) 0 (w - 1) in
-      let s0 = total_le (λ y. row_steps le at w h r y) (λ y. 2 * (v y + t y) + a y) 0 h (λ y p q. row-le y (omega arith)) in
+      let s0 = total_le (λ y. row_steps le at w h r y) (λ y. 2 * (v y + t y) + a y) 0 h (λ y p q. row_le y (omega arith)) in
       let s1 = total_add (λ y. 2 * (v y + t y)) a 0 h in
       let s2 = total_times (λ y. v y + t y) 2 0 h in
       let s3 = total_add v t 0 h in

@@ -80,39 +80,39 @@ module _ {X : Type 0} {le : X → X → Bool} (o : Preorder le) (all : List X) (
       ∙ (ap (λ k. finger_steps le all (at x (top + (m - 1 - j) + 1)) (at x k)) e2 ∙ steps_back o all (at x (top + (m - 1 - j) + 1)) (at x (top + (m - 1 - j)))))
       ∙ total_reverse d top m
 
-  column-travel : (p : X) (x : ℕ) → travel le all p (walk at top (suc m) x) ≡ finger_steps le all p (at x (walked_row top (suc m) x 0)) + total (λ k. finger_steps le all (at x k) (at x (k + 1))) top m
-  column-travel p x = omega (arith, travel_map le all p (λ j. at x (walked_row top (suc m) x j)) 0 m, walked_by x (eqb (x % 2) 0))
+  column_travel : (p : X) (x : ℕ) → travel le all p (walk at top (suc m) x) ≡ finger_steps le all p (at x (walked_row top (suc m) x 0)) + total (λ k. finger_steps le all (at x k) (at x (k + 1))) top m
+  column_travel p x = omega (arith, travel_map le all p (λ j. at x (walked_row top (suc m) x j)) 0 m, walked_by x (eqb (x % 2) 0))
 
-  column-end : (p : X) (x : ℕ) → end_of p (walk at top (suc m) x) ≡ at x (turn_row top (suc m) x)
-  column-end p x =
+  column_end : (p : X) (x : ℕ) → end_of p (walk at top (suc m) x) ≡ at x (turn_row top (suc m) x)
+  column_end p x =
       let z : 0 + m ≡ m = omega arith in
       end_map p (λ j. at x (walked_row top (suc m) x j)) 0 m ∙ (ap (λ j. at x (walked_row top (suc m) x j)) z ∙ ap (at x) (row_end top m x))
 
-  columns-more : (k : ℕ) → walks at top (suc m) 0 (suc k) ≡ walks at top (suc m) 0 k ++ walk at top (suc m) k
-  columns-more k =
+  columns_more : (k : ℕ) → walks at top (suc m) 0 (suc k) ≡ walks at top (suc m) 0 k ++ walk at top (suc m) k
+  columns_more k =
       let e : suc k - k ≡ 1 = omega arith in
       let one : walks at top (suc m) k (suc k) ≡ walk at top (suc m) k = rw e (append-nil (walk at top (suc m) k)) in
       joined_range (walk at top (suc m)) 0 k (suc k) (omega arith) (omega arith) ∙ ap (λ l. walks at top (suc m) 0 k ++ l) one
 
-  columns-end : (p : X) (k : ℕ) → end_of p (walks at top (suc m) 0 (suc k)) ≡ at k (turn_row top (suc m) k)
-  columns-end p k = ap (end_of p) (columns-more k) ∙ (end_append p (walks at top (suc m) 0 k) (walk at top (suc m) k) ∙ column-end (end_of p (walks at top (suc m) 0 k)) k)
+  columns_end : (p : X) (k : ℕ) → end_of p (walks at top (suc m) 0 (suc k)) ≡ at k (turn_row top (suc m) k)
+  columns_end p k = ap (end_of p) (columns_more k) ∙ (end_append p (walks at top (suc m) 0 k) (walk at top (suc m) k) ∙ column_end (end_of p (walks at top (suc m) 0 k)) k)
 
   -- the way of a finger along the walk of the first k columns
-  pub walk-travel : (k : ℕ) → travel le all (at 0 (walked_row top (suc m) 0 0)) (walks at top (suc m) 0 k)
+  pub walk_travel : (k : ℕ) → travel le all (at 0 (walked_row top (suc m) 0 0)) (walks at top (suc m) 0 k)
       ≡ total (λ x. total (λ b. finger_steps le all (at x b) (at x (b + 1))) top m) 0 k + total (λ x. finger_steps le all (at x (turn_row top (suc m) x)) (at (x + 1) (turn_row top (suc m) x))) 0 (k - 1)
-  walk-travel zero = refl
-  walk-travel (suc zero) =
+  walk_travel zero = refl
+  walk_travel (suc zero) =
       let p = at 0 (walked_row top (suc m) 0 0) in
-      ap (travel le all p) (columns-more 0) ∙ omega (arith, column-travel p 0, steps_none le all p)
-  walk-travel (suc (suc k)) =
+      ap (travel le all p) (columns_more 0) ∙ omega (arith, column_travel p 0, steps_none le all p)
+  walk_travel (suc (suc k)) =
       let p = at 0 (walked_row top (suc m) 0 0) in
       let d : ℕ → ℕ = λ x. total (λ b. finger_steps le all (at x b) (at x (b + 1))) top m in
       let t : ℕ → ℕ = λ x. finger_steps le all (at x (turn_row top (suc m) x)) (at (x + 1) (turn_row top (suc m) x)) in
-      let e1 = ap (travel le all p) (columns-more (suc k)) in
+      let e1 = ap (travel le all p) (columns_more (suc k)) in
       let e2 = travel_append le all p (walks at top (suc m) 0 (suc k)) (walk at top (suc m) (suc k)) in
-      let e3 = walk-travel (suc k) in
-      let e4 = ap (λ z. travel le all z (walk at top (suc m) (suc k))) (columns-end p k) in
-      let e5 = column-travel (at k (turn_row top (suc m) k)) (suc k) in
+      let e3 = walk_travel (suc k) in
+      let e4 = ap (λ z. travel le all z (walk at top (suc m) (suc k))) (columns_end p k) in
+      let e5 = column_travel (at k (turn_row top (suc m) k)) (suc k) in
       let s : suc k ≡ k + 1 = omega arith in
       let e6 : at (suc k) (walked_row top (suc m) (suc k) 0) ≡ at (k + 1) (turn_row top (suc m) k) = ap (λ z. at z (walked_row top (suc m) z 0)) s ∙ ap (at (k + 1)) (row_start top m k) in
       let e7 = ap (λ z. finger_steps le all (at k (turn_row top (suc m) k)) z) e6 in

@@ -18,19 +18,19 @@ counting_more a n = sym (map-id _) ∙ map-range_with_len_more (λ k. k) a n (a 
 tally_and : {X : Type 0} (b : Bool) (p : X → Bool) (xs : List X) → tally (λ x. p x && b) xs ≡ cond b (tally p xs) 0
 tally_and true p [] = refl
 tally_and false p [] = refl
-tally_and true p (x ∷ xs) = let on = tally_and true p xs in let e : (p x && true) ≡ p x = and-true (p x) in cc
+tally_and true p (x ∷ xs) = let on = tally_and true p xs in let e : (p x && true) ≡ p x = and_true (p x) in cc
   where
-    and-true : (c : Bool) → (c && true) ≡ c
-    and-true true = refl
-    and-true false = refl
+    and_true : (c : Bool) → (c && true) ≡ c
+    and_true true = refl
+    and_true false = refl
 tally_and false p (x ∷ xs) =
     let on = tally_and false p xs in
     let bit : Bool → ℕ = λ c. cond c 1 0 in
-    omega (arith, on, ap bit (and-false (p x)))
+    omega (arith, on, ap bit (and_false (p x)))
   where
-    and-false : (c : Bool) → (c && false) ≡ false
-    and-false true = refl
-    and-false false = refl
+    and_false : (c : Bool) → (c && false) ≡ false
+    and_false true = refl
+    and_false false = refl
 
 -- the tally of a list that is made by a function
 tally_map : {X Y : Type 0} (f : X → Y) (p : Y → Bool) (xs : List X) → tally p (map f xs) ≡ tally (λ x. p (f x)) xs

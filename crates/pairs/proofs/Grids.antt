@@ -14,7 +14,7 @@ use Rattle.grid.specs.Window.{near, reaches, is_not_higher, count_at}
 use Rattle.grid.proofs.Sizes.{cells_tally}
 use Rattle.pairs.specs.Pairs.{cell_pairs, are_level, CountsAddUp, CountsBounded, PairsInOrder}
 use Rattle.pairs.proofs.Sums.{Ordered, ordered_append, ordered_pairs}
-use Rattle.pairs.proofs.Square.{counts-over-list}
+use Rattle.pairs.proofs.Square.{counts_over_list}
 
 -- a grid has as many cells as columns times rows
 pub length_cells : (width rows : ℕ) → length (cells width rows) ≡ width * rows
@@ -82,7 +82,7 @@ pub counts_over_cells : {X : Type 0} {le : X → X → Bool} → Preorder le →
     + tally (λ (pair : Place × Place). inReach pair.0 pair.1 && are_level le (height_at t pair.0) (height_at t pair.1)) (cell_pairs t.width t.rows)
 counts_over_cells {le = le} o inReach symmetric reflexive t whole =
     let There : Place → Type 0 = λ p. is_some (height_at t p) ≡ true in
-    let list = counts-over-list inReach (λ p q. is_not_higher le (height_at t p) (height_at t q)) There symmetric reflexive
+    let list = counts_over_list inReach (λ p q. is_not_higher le (height_at t p) (height_at t q)) There symmetric reflexive
     (λ p q hp hq. total_there o (height_at t p) (height_at t q) hp hq)
     (cells t.width t.rows) (all_cells There t.width t.rows (λ x y inx iny. height_there t whole (record { x = x; y = y }) inx iny)) in
     omega (arith, list, length_cells t.width t.rows)

@@ -53,21 +53,21 @@ module _ {X : Type 0} (inReach not_higher : X → X → Bool) where
   reached pair = inReach pair.0 pair.1
 
   -- the level pairs in reach
-  abbrev pub reachedLevel : X × X → Bool
-  reachedLevel pair = inReach pair.0 pair.1 && (not_higher pair.0 pair.1 && not_higher pair.1 pair.0)
+  abbrev pub reached_level : X × X → Bool
+  reached_level pair = inReach pair.0 pair.1 && (not_higher pair.0 pair.1 && not_higher pair.1 pair.0)
 
   -- the counts of a list add up to its length, its pairs in reach and its level pairs in reach
-  pub counts-over-list : (P : X → Type 0)
+  pub counts_over_list : (P : X → Type 0)
       → ((p q : X) → inReach p q ≡ inReach q p)
       → ((p : X) → inReach p p ≡ true)
       → ((p q : X) → P p → P q → (not_higher p q ≡ true) ⊎ (not_higher q p ≡ true))
       → (ps : List X) → All P ps
-      → sum_by (count_for ps) ps ≡ length ps + tally reached (pairs_of ps) + tally reachedLevel (pairs_of ps)
-  counts-over-list P symmetric reflexive total ps all =
+      → sum_by (count_for ps) ps ≡ length ps + tally reached (pairs_of ps) + tally reached_level (pairs_of ps)
+  counts_over_list P symmetric reflexive total ps all =
       let f : X → X → ℕ = λ p q. cond (inReach p q && not_higher q p) 1 0 in
       let both : X × X → ℕ = λ pair. f pair.0 pair.1 + f pair.1 pair.0 in
       let one : X × X → ℕ = λ pair. cond (reached pair) 1 0 in
-      let two : X × X → ℕ = λ pair. cond (reachedLevel pair) 1 0 in
+      let two : X × X → ℕ = λ pair. cond (reached_level pair) 1 0 in
       let counts = sum_ext (count_for ps) (λ p. sum_by (f p) ps) ps (λ p. tally_sum (λ q. inReach p q && not_higher q p) ps) in
       let square = square_sum f ps in
       let diagonal = sum_same (λ p. f p p) (λ _. 1) ps (All-weaker P (λ p. f p p ≡ 1) (λ p h. self_counts (inReach p p) (not_higher p p) (reflexive p) (total p p h h)) ps all) in
@@ -79,5 +79,5 @@ module _ {X : Type 0} (inReach not_higher : X → X → Bool) where
       (pairs_of ps) (all_pairs P ps all)) in
       let parts = sum_add one two (pairs_of ps) in
       let t1 = tally_sum reached (pairs_of ps) in
-      let t2 = tally_sum reachedLevel (pairs_of ps) in
+      let t2 = tally_sum reached_level (pairs_of ps) in
       omega (arith, counts, square, diagonal, ones, long, pairs, parts, t1, t2)

@@ -9,7 +9,7 @@ use Rattle.grid.specs.Terrain.{Terrain, reading_index, height_at}
 use Rattle.grid.specs.Alike.{AllHeights, Alike}
 use Rattle.siting_box.specs.Contents.{Contents, well_fitted, plan_terrain}
 use Rattle.siting_box.proofs.Plans.{fitting}
-use Rattle.runs.proofs.Couples.{Both, Couple, Compares, both-nth, couples-compare}
+use Rattle.runs.proofs.Couples.{Both, Couple, Compares, both_nth, couples_compare}
 use Rattle.runs.proofs.Boxes.{Paired, fits'}
 
 -- the grid of a plan that fits has all its heights
@@ -30,17 +30,17 @@ same_rows (Some p) records records' = refl
 
 module _ {X Y : Type 0} (P : X → Y → Type 0) (le : X → X → Bool) (le' : Y → Y → Bool) where
   -- the heights at a place are partners, or there is none in both grids
-  couple-at : (width rows : ℕ) (hs : List X) (gs : List Y) (q : Place) → Both P hs gs → Couple P (height_at (record { width = width; rows = rows; heights = hs }) q) (height_at (record { width = width; rows = rows; heights = gs }) q)
-  couple-at width rows hs gs q both = by-column (ltb q.x width)
+  couple_at : (width rows : ℕ) (hs : List X) (gs : List Y) (q : Place) → Both P hs gs → Couple P (height_at (record { width = width; rows = rows; heights = hs }) q) (height_at (record { width = width; rows = rows; heights = gs }) q)
+  couple_at width rows hs gs q both = by_column (ltb q.x width)
     where
-      by-column : (t : Bool) → Couple P (cond t (slice_get hs (reading_index width q)) None) (cond t (slice_get gs (reading_index width q)) None)
-      by-column true = both-nth P hs gs (reading_index width q) both
-      by-column false = tt
+      by_column : (t : Bool) → Couple P (cond t (slice_get hs (reading_index width q)) None) (cond t (slice_get gs (reading_index width q)) None)
+      by_column true = both_nth P hs gs (reading_index width q) both
+      by_column false = tt
 
   -- the same of two grids that are equally wide
-  grids-compare : (t : Terrain X) (t' : Terrain Y) → t.width ≡ t'.width → Both P t.heights t'.heights → (q : Place) → Couple P (height_at t q) (height_at t' q)
-  grids-compare t t' e both q =
-      subst (λ w. Couple P (height_at t q) (height_at (record { width = w; rows = t'.rows; heights = t'.heights }) q)) e (couple-at t.width t.rows t.heights t'.heights q both)
+  grids_compare : (t : Terrain X) (t' : Terrain Y) → t.width ≡ t'.width → Both P t.heights t'.heights → (q : Place) → Couple P (height_at t q) (height_at t' q)
+  grids_compare t t' e both q =
+      subst (λ w. Couple P (height_at t q) (height_at (record { width = w; rows = t'.rows; heights = t'.heights }) q)) e (couple_at t.width t.rows t.heights t'.heights q both)
 
   -- the grids of paired boxes are alike
   pub paired_alike : (b : Contents X) (b' : Contents Y) → Compares le le' P → Paired P b b' → Alike le le' (plan_terrain b.plan b.records) (plan_terrain b'.plan b'.records)
@@ -48,11 +48,11 @@ module _ {X Y : Type 0} (P : X → Y → Type 0) (le : X → X → Bool) (le' : 
       let t = plan_terrain b.plan b.records in
       let t' = plan_terrain b'.plan b'.records in
       let columns : t.width ≡ t'.width = same_columns b.plan b.records b'.records ∙ ap (λ o. (plan_terrain o b'.records).width) h.plans in
-      let couples = grids-compare t t' columns h.cells in
+      let couples = grids_compare t t' columns h.cells in
       record {
         width = columns;
         rows = same_rows b.plan b.records b'.records ∙ ap (λ o. (plan_terrain o b'.records).rows) h.plans;
         all = all_heights b.plan b.records h.fits;
         all' = all_heights b'.plan b'.records (fits' P b b' h);
-        compare = λ p q _ _. couples-compare P le le' iso (height_at t p) (height_at t q) (height_at t' p) (height_at t' q) (couples p) (couples q);
+        compare = λ p q _ _. couples_compare P le le' iso (height_at t p) (height_at t q) (height_at t' p) (height_at t' q) (couples p) (couples q);
       }

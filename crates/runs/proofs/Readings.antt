@@ -8,7 +8,7 @@ use Rattle.siting_box.specs.Stored.{stored_at, read_more, read_first}
 use Rattle.runs.specs.declared.call.Call.{Call}
 use Rattle.runs.specs.Calling.{form, brought, brings}
 use Rattle.runs.specs.Matching.{Partners, ReadAt}
-use Rattle.runs.proofs.Couples.{Both, both-push}
+use Rattle.runs.proofs.Couples.{Both, both_push}
 
 -- two readings of one stored height: partners, or none twice
 abbrev pub OneAlike : {X C Y D : Type 0} → (X → Y → Type 0) → Result X C → Result Y D → Type 0
@@ -49,7 +49,7 @@ module _ {X C Y D : Type 0} (P : X → Y → Type 0) where
   all_ok (Err c) (Err d) p = refl
 
   more_alike : (i : ℕ) (r : Result (List X) (ℕ × C)) (r' : Result (List Y) (ℕ × D)) (s : Result X C) (s' : Result Y D) → AllAlike P r r' → OneAlike P s s' → AllAlike P (read_more r i s) (read_more r' i s')
-  more_alike i (Ok hs) (Ok gs) (Ok x) (Ok y) p q = both-push P hs gs x y p q
+  more_alike i (Ok hs) (Ok gs) (Ok x) (Ok y) p q = both_push P hs gs x y p q
   more_alike i (Ok hs) (Ok gs) (Ok x) (Err d) p q = absurd q
   more_alike i (Ok hs) (Ok gs) (Err c) (Ok y) p q = absurd q
   more_alike i (Ok hs) (Ok gs) (Err c) (Err d) p q = refl

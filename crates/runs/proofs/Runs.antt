@@ -11,10 +11,10 @@ use Rattle.runs.specs.Running.{Outcome, Sight, Turn, Run, StepOf, new_box}
 use Rattle.runs.specs.Agreeing.{BoxesAgree}
 use Rattle.runs.proofs.Couples.{Compares}
 use Rattle.runs.proofs.Readings.{Coupled, coupled}
-use Rattle.runs.proofs.Boxes.{Paired, new-paired, same-paired, fits'}
+use Rattle.runs.proofs.Boxes.{Paired, new_paired, same_paired, fits'}
 use Rattle.runs.proofs.Counts.{paired_counts}
 use Rattle.runs.proofs.Cells.{same_some}
-use Rattle.runs.proofs.Steps.{step-together, step_keeps}
+use Rattle.runs.proofs.Steps.{step_together, step_keeps}
 
 -- the counts of a new box are the defined ones: it has no cell
 new_counted : {X : Type 0} (le : X → X → Bool) (records : List (CellRecord X)) → Counted le (new_box records)
@@ -48,7 +48,7 @@ module _ {X C Y D : Type 0} (P : X → Y → Type 0) (k : Storage X C) (k' : Sto
   turn_together : (c c' : Call) (places places' : ℕ) (b after : Contents X) (b' after' : Contents Y) (s s' : Sight) → Alike c c' → (form c ≡ sweeps → places ≡ places') → Paired P b b' → Counted le b → Counted le' b' → Turn k le c places b after s → Turn k' le' c' places' b' after' s' → Going after after' s s'
   turn_together c c' places places' b after b' after' s s' alike equal h counted counted' t t' =
       let step' : StepOf k' le' (form c) (brought c') b' after' t'.old t'.new s'.outcome = subst (λ f. StepOf k' le' f (brought c') b' after' t'.old t'.new s'.outcome) (sym alike.0) t'.step in
-      let both = step-together P k k' le le' b after b' after' h (form c) (brought c) (brought c') t.old t.new t'.old t'.new s.outcome s'.outcome iso alike.1 (λ sweep. t.places_are ∙ equal sweep ∙ sym t'.places_are) counted counted' t.step step' in
+      let both = step_together P k k' le le' b after b' after' h (form c) (brought c) (brought c') t.old t.new t'.old t'.new s.outcome s'.outcome iso alike.1 (λ sweep. t.places_are ∙ equal sweep ∙ sym t'.places_are) counted counted' t.step step' in
       let keeps = step_keeps k le (form c) (brought c) b after t.old t.new s.outcome h.fits counted t.step in
       let keeps' = step_keeps k' le' (form c) (brought c') b' after' t'.old t'.new s'.outcome (fits' P b b' h) counted' step' in
       record {
@@ -61,7 +61,7 @@ module _ {X C Y D : Type 0} (P : X → Y → Type 0) (k : Storage X C) (k' : Sto
   stayed : (b last : Contents X) (b' last' : Contents Y) → Paired P b b' → Counted le b → Counted le' b' → last ≡ b → last' ≡ b' → Gone P le le' last last' [] []
   stayed b last b' last' h counted counted' e e' = record {
     seen = refl;
-    paired = same-paired P b last b' last' e e' h;
+    paired = same_paired P b last b' last' e e' h;
     counted = subst (Counted le) (sym e) counted;
     counted' = subst (Counted le') (sym e') counted';
   }
@@ -96,7 +96,7 @@ pub matched_runs : {X C Y D : Type 0} (k : Storage X C) (k' : Storage Y D) (le :
 matched_runs k k' le le' records records' calls calls' places places' sights sights' last last' fitted m equal r r' =
     runs_together (ReadAt k k' calls calls') k k' le le' m.order calls calls' places places' sights sights' (new_box records) last (new_box records') last' m.long
     (λ i c c' e e'. let p = m.partners i c c' e e' in (p.forms, coupled k k' calls calls' i c c' e e' p)) equal
-    (new-paired (ReadAt k k' calls calls') records records' fitted) (new_counted le records) (new_counted le' records') r r'
+    (new_paired (ReadAt k k' calls calls') records records' fitted) (new_counted le records) (new_counted le' records') r r'
 
 -- the law of two boxes
 pub boxes_agree : {X C Y D : Type 0} (k : Storage X C) (k' : Storage Y D) (le : X → X → Bool) (le' : Y → Y → Bool) → BoxesAgree k k' le le'

@@ -95,9 +95,9 @@ module _ {X : Type 0} (le : X → X → Bool) (p : Plan) (old after : List (Cell
           inr (omega (arith, mul-le-mul_right width gt))
 
   -- the count of a cell of another row after the sweep
-  count-beside : (q : Place) → Inside (plan_terrain (Some p) old) q → Counted le (contents (Some p) old) → (c : CellRecord X) → ((d : CellRecord X) → get_or after (reading_index p.width q) d ≡ c) → (q.y ≡ p.swept → ⊥)
+  count_beside : (q : Place) → Inside (plan_terrain (Some p) old) q → Counted le (contents (Some p) old) → (c : CellRecord X) → ((d : CellRecord X) → get_or after (reading_index p.width q) d ≡ c) → (q.y ≡ p.swept → ⊥)
       → c.count ≡ cond (ltb q.y (p.swept + 1)) (count_at le (plan_terrain (Some p) old) p.radius q) 0
-  count-beside q inside counted c c-is other =
+  count_beside q inside counted c c-is other =
       let i = reading_index p.width q in
       let N = count_at le (plan_terrain (Some p) old) p.radius q in
       let below : i < p.width * p.rows = mul-add-lt q.y p.width q.x p.rows inside.1 inside.0 in
@@ -118,9 +118,9 @@ module _ {X : Type 0} (le : X → X → Bool) (p : Plan) (old after : List (Cell
           e ∙ sym (let t : ltb y (m + 1) ≡ false = grind (arith, nat_tests) in t)
 
   -- the count of a cell of the swept row after the sweep
-  count-in-row : (q : Place) → Inside (plan_terrain (Some p) old) q → (c : CellRecord X) → ((d : CellRecord X) → get_or after (reading_index p.width q) d ≡ c) → q.y ≡ p.swept
+  count_in_row : (q : Place) → Inside (plan_terrain (Some p) old) q → (c : CellRecord X) → ((d : CellRecord X) → get_or after (reading_index p.width q) d ≡ c) → q.y ≡ p.swept
       → c.count ≡ cond (ltb q.y (p.swept + 1)) (count_at le (plan_terrain (Some p) old) p.radius q) 0
-  count-in-row q inside c c-is here =
+  count_in_row q inside c c-is here =
       let N : Place → ℕ = count_at le (plan_terrain (Some p) old) p.radius in
       let place : ℕ → Place = λ y. record { x = q.x; y = y } in
       let index : reading_index p.width q ≡ p.swept * p.width + q.x = ap (λ y. y * p.width + q.x) here in
@@ -129,17 +129,17 @@ module _ {X : Type 0} (le : X → X → Bool) (p : Plan) (old after : List (Cell
       let test : ltb q.y (p.swept + 1) ≡ true = grind (arith, nat_tests) in
       sym (ap (λ (r : CellRecord X). r.count) at) ∙ counted ∙ ap (λ y. N (place y)) (sym here) ∙ sym (ap (λ b. cond b (N q) 0) test)
 
-  count-after : (q : Place) → Inside (plan_terrain (Some p) old) q → Counted le (contents (Some p) old) → (c : CellRecord X) → ((d : CellRecord X) → get_or after (reading_index p.width q) d ≡ c) → (b : Bool) → eqb q.y p.swept ≡ b
+  count_after : (q : Place) → Inside (plan_terrain (Some p) old) q → Counted le (contents (Some p) old) → (c : CellRecord X) → ((d : CellRecord X) → get_or after (reading_index p.width q) d ≡ c) → (b : Bool) → eqb q.y p.swept ≡ b
       → c.count ≡ cond (ltb q.y (p.swept + 1)) (count_at le (plan_terrain (Some p) old) p.radius q) 0
-  count-after q inside counted c c-is true e = count-in-row q inside c c-is (let h : q.y ≡ p.swept = grind (arith, nat_tests) in h)
-  count-after q inside counted c c-is false e = count-beside q inside counted c c-is (λ same. let z : eqb q.y p.swept ≡ true = grind (arith, nat_tests) in let y : ◌≡◌ {A = ℕ} 0 1 = cc in omega arith)
+  count_after q inside counted c c-is true e = count_in_row q inside c c-is (let h : q.y ≡ p.swept = grind (arith, nat_tests) in h)
+  count_after q inside counted c c-is false e = count_beside q inside counted c c-is (λ same. let z : eqb q.y p.swept ≡ true = grind (arith, nat_tests) in let y : ◌≡◌ {A = ℕ} 0 1 = cc in omega arith)
 
-  swept-counts : Counted le (contents (Some p) old) → Counted le (contents (Some (with_row p)) (after ++ drop (p.width * p.rows) old))
-  swept-counts counted q inside =
+  swept_counts : Counted le (contents (Some p) old) → Counted le (contents (Some (with_row p)) (after ++ drop (p.width * p.rows) old))
+  swept_counts counted q inside =
       let i = reading_index p.width q in
       let below : i < length after = omega (arith, long, mul-add-lt q.y p.width q.x p.rows inside.1 inside.0) in
       let found = front_record after (drop (p.width * p.rows) old) i below in
-      let is = count-after q inside counted found.0 found.2 (eqb q.y p.swept) refl in
+      let is = count_after q inside counted found.0 found.2 (eqb q.y p.swept) refl in
       ap (option_map (λ (r : CellRecord X). r.count)) found.1
       ∙ ap Some is
       ∙ ap (λ t. Some (cond (ltb q.y (p.swept + 1)) (count_at le t p.radius q) 0)) (sym same_terrain)
@@ -150,7 +150,7 @@ counted_swept le before after v w mileage s fit counted =
     let p = s.plan in
     let was : contents (Some p) before.records ≡ before = ap (λ q. contents q before.records) (sym s.plan_is) in
     let is : contents (Some (with_row p)) (s.cells ++ drop (p.width * p.rows) before.records) ≡ after = ap (λ q. contents q (s.cells ++ drop (p.width * p.rows) before.records)) (sym s.plan_after) ∙ ap (contents after.plan) (sym s.records_after) in
-    subst (Counted le) is (swept-counts le p before.records s.cells v w mileage fit s.row (subst (Counted le) (sym was) counted))
+    subst (Counted le) is (swept_counts le p before.records s.cells v w mileage fit s.row (subst (Counted le) (sym was) counted))
 
 -- ---- alter
 
@@ -159,35 +159,35 @@ module _ {X : Type 0} (le : X → X → Bool) (p : Plan) (old after : List (Cell
   all_there = s.length_is ∙ length-take (p.width * p.rows) old ∙ omega (arith, (fitting p (length old) fit).recorded)
 
   -- the grid after the alteration
-  terrain-after : plan_terrain (Some p) (after ++ drop (p.width * p.rows) old) ≡ terrain_of p.width p.rows after
-  terrain-after =
+  terrain_after : plan_terrain (Some p) (after ++ drop (p.width * p.rows) old) ≡ terrain_of p.width p.rows after
+  terrain_after =
       let of-heights : List X → Terrain X = λ hs. record { width = p.width; rows = p.rows; heights = hs } in
       let front : take (p.width * p.rows) (after ++ drop (p.width * p.rows) old) ≡ after = ap (λ m. take m (after ++ drop (p.width * p.rows) old)) (sym all_there) ∙ take-append_seam after (drop (p.width * p.rows) old) in
       ap of-heights (ap heights_of front)
 
   -- the count of a cell after the alteration, by whether its row is swept
-  mended-count : (q : Place) (b : Bool) → ltb q.y p.swept ≡ b → Inside (plan_terrain (Some p) old) q → (c c' : CellRecord X) → ((d : CellRecord X) → get_or (take (p.width * p.rows) old) (reading_index p.width q) d ≡ c) → ((d : CellRecord X) → get_or after (reading_index p.width q) d ≡ c')
+  mended_on_record : (q : Place) (b : Bool) → ltb q.y p.swept ≡ b → Inside (plan_terrain (Some p) old) q → (c c' : CellRecord X) → ((d : CellRecord X) → get_or (take (p.width * p.rows) old) (reading_index p.width q) d ≡ c) → ((d : CellRecord X) → get_or after (reading_index p.width q) d ≡ c')
       → c.count ≡ cond b (count_at le (plan_terrain (Some p) old) p.radius q) 0 → c'.count ≡ cond b (count_at le (terrain_of p.width p.rows after) p.radius q) 0
-  mended-count q true e inside c c' is is' was =
+  mended_on_record q true e inside c c' is is' was =
       let lt : q.y < p.swept = grind (arith, nat_tests) in
       let count : CellRecord X → ℕ = λ r. r.count in
       sym (ap count (is' c)) ∙ s.counts q.x q.y c inside.0 lt (ap count (is c) ∙ was)
-  mended-count q false e inside c c' is is' was =
+  mended_on_record q false e inside c c' is is' was =
       let ge : p.swept ≤ q.y = grind (arith, nat_tests) in
       let count : CellRecord X → ℕ = λ r. r.count in
       sym (ap count (is' c)) ∙ s.unswept (reading_index p.width q) c (omega (arith, mul-le-mul_right p.width ge)) ∙ ap count (is c) ∙ was
 
-  altered-counts : Counted le (contents (Some p) old) → Counted le (contents (Some p) (after ++ drop (p.width * p.rows) old))
-  altered-counts counted q inside =
+  altered_counts : Counted le (contents (Some p) old) → Counted le (contents (Some p) (after ++ drop (p.width * p.rows) old))
+  altered_counts counted q inside =
       let i = reading_index p.width q in
       let below : i < p.width * p.rows = mul-add-lt q.y p.width q.x p.rows inside.1 inside.0 in
       let found = there old i (omega (arith, (fitting p (length old) fit).recorded)) in
       let found' = front_record after (drop (p.width * p.rows) old) i (omega (arith, all_there)) in
       let was : Some found.0.count ≡ Some (cond (ltb q.y p.swept) (count_at le (plan_terrain (Some p) old) p.radius q) 0) = sym (ap (option_map (λ (r : CellRecord X). r.count)) found.1) ∙ counted q inside in
-      let is = mended-count q (ltb q.y p.swept) refl inside found.0 found'.0 (λ d. get_or-take (p.width * p.rows) old i d below ∙ found.2 d) found'.2 (some_same _ _ was) in
+      let is = mended_on_record q (ltb q.y p.swept) refl inside found.0 found'.0 (λ d. get_or-take (p.width * p.rows) old i d below ∙ found.2 d) found'.2 (some_same _ _ was) in
       ap (option_map (λ (r : CellRecord X). r.count)) found'.1
       ∙ ap Some is
-      ∙ ap (λ t. Some (cond (ltb q.y p.swept) (count_at le t p.radius q) 0)) (sym terrain-after)
+      ∙ ap (λ t. Some (cond (ltb q.y p.swept) (count_at le t p.radius q) 0)) (sym terrain_after)
 
 -- an accepted alter keeps the counts the defined ones
 counted_altered : {X C : Type 0} (k : Storage X C) (le : X → X → Bool) (x y : ℕ) (bytes : List ℕ) (before after : Contents X) → (s : AlteredPlan k le x y bytes before after) → fits_in s.plan (length before.records) ≡ true → Counted le before → Counted le after
@@ -195,7 +195,7 @@ counted_altered k le x y bytes before after s fit counted =
     let p = s.plan in
     let was : contents (Some p) before.records ≡ before = ap (λ q. contents q before.records) (sym s.plan_is) in
     let is : contents (Some p) (s.cells ++ drop (p.width * p.rows) before.records) ≡ after = ap (λ q. contents q (s.cells ++ drop (p.width * p.rows) before.records)) (sym s.plan_after) ∙ ap (contents after.plan) (sym s.records_after) in
-    subst (Counted le) is (altered-counts le p before.records s.cells x y s.height fit s.altered (subst (Counted le) (sym was) counted))
+    subst (Counted le) is (altered_counts le p before.records s.cells x y s.height fit s.altered (subst (Counted le) (sym was) counted))
 
 -- ---- all of them
 

@@ -21,13 +21,13 @@ pub only_places : (p : Plan) (places fitted n : ℕ) → fits_in p fitted ≡ tr
 only_places p places fitted n fit left whole =
     let facts = fitting p fitted fit in
     all_but (leb 1 p.width) (leb p.width 1024) (leb p.rows 1024) (leb 1 p.radius) (leb p.radius 255) (ltb p.swept p.rows) (eqb n (p.width * p.rows)) (leb (places_needed p.width p.rows p.radius) places)
-    (le-leb _ _ facts.some_columns) (le-leb _ _ facts.columns) (le-leb _ _ facts.rows) (le-leb _ _ facts.some_radius) (le-leb _ _ facts.radius) (le-leb _ _ left) (eq-eqb _ _ whole)
+    (le_leb _ _ facts.some_columns) (le_leb _ _ facts.columns) (le_leb _ _ facts.rows) (le_leb _ _ facts.some_radius) (le_leb _ _ facts.radius) (le_leb _ _ left) (eq_eqb _ _ whole)
   where
-    le-leb : (a b : ℕ) → a ≤ b → leb a b ≡ true
-    le-leb a b h = grind (arith, nat_tests)
+    le_leb : (a b : ℕ) → a ≤ b → leb a b ≡ true
+    le_leb a b h = grind (arith, nat_tests)
 
-    eq-eqb : (a b : ℕ) → a ≡ b → eqb a b ≡ true
-    eq-eqb a b h = grind (arith, nat_tests)
+    eq_eqb : (a b : ℕ) → a ≡ b → eqb a b ≡ true
+    eq_eqb a b h = grind (arith, nat_tests)
 
 -- a sweep that cannot be is denied by question 8
 pub denied_places : {X : Type 0} (o : Option Plan) (p : Plan) (records : List (CellRecord X)) (places fitted n : ℕ) → o ≡ Some p → fits_in p fitted ≡ true → p.swept < p.rows → n ≡ p.width * p.rows → false ≡ can_sweep places n p.width p.rows p.radius p.swept → Some 8 ≡ first_no (sweep_questions (contents o records) places)

@@ -48,8 +48,8 @@ module _ {X C : Type 0} (k : Storage X C) (bytes : List ℕ) where
       (ap is_ok step ∙ p.0, ap ok_heights step ∙ p.1)
 
   -- where all read, none fails
-  pub none-fails : (i n : ℕ) (c : C) → i < n → is_ok (read_first k bytes n) ≡ true → is_ok (read_first k bytes i) ≡ true → stored_at k bytes i ≡ Err c → ⊥
-  none-fails i n c lt all ok e =
+  pub none_fails : (i n : ℕ) (c : C) → i < n → is_ok (read_first k bytes n) ≡ true → is_ok (read_first k bytes i) ≡ true → stored_at k bytes i ≡ Err c → ⊥
+  none_fails i n c lt all ok e =
       let z : false ≡ true = sym (ap is_ok (fails i n c lt ok e)) ∙ all in
       let y : ◌≡◌ {A = ℕ} 0 1 = cc in
       omega arith

@@ -122,29 +122,29 @@ module _ {X : Type 0} (le : X → X → Bool) (t : Terrain X) (p : Place) (own :
   at_p : height_at t p ≡ Some own
   at_p = height_inside t p own long from ∙ ap Some (sym own_is)
 
-  higher-is : (q : Place) → Inside t q → is_higher le (height_at t q) (height_at t p) ≡ not (le (get_or t.heights (reading_index t.width q) own) own)
-  higher-is q i = ap (λ a. is_higher le a (height_at t p)) (height_inside t q own long i) ∙ ap (λ b. is_higher le (Some (get_or t.heights (reading_index t.width q) own)) b) at_p
+  higher_is : (q : Place) → Inside t q → is_higher le (height_at t q) (height_at t p) ≡ not (le (get_or t.heights (reading_index t.width q) own) own)
+  higher_is q i = ap (λ a. is_higher le a (height_at t p)) (height_inside t q own long i) ∙ ap (λ b. is_higher le (Some (get_or t.heights (reading_index t.width q) own)) b) at_p
 
   index_below : (q : Place) → Inside t q → reading_index t.width q < t.width * t.rows
   index_below q i = mul-add-lt q.y t.width q.x t.rows i.1 i.0
 
-  none-higher : SoFar le t.heights own t.width p (t.width * t.rows) None → Nearest le t p None
-  none-higher h q i = higher-is q i ∙ ap not (h (reading_index t.width q) (index_below q i))
+  none_higher : SoFar le t.heights own t.width p (t.width * t.rows) None → Nearest le t p None
+  none_higher h q i = higher_is q i ∙ ap not (h (reading_index t.width q) (index_below q i))
 
   against : (f : Higher) → BestOf le t.heights own t.width p (t.width * t.rows) f → (q : Place) → Inside t q → is_higher le (height_at t q) (height_at t p) ≡ true → (f.distance < squared_distance p q) ⊎ ((f.distance ≡ squared_distance p q) × (reading_index t.width f.place ≤ reading_index t.width q))
   against f h q i up =
-      let low = not_false _ (sym (higher-is q i) ∙ up) in
+      let low = not_false _ (sym (higher_is q i) ∙ up) in
       subst (λ r. (f.distance < squared_distance p r) ⊎ ((f.distance ≡ squared_distance p r) × (reading_index t.width f.place ≤ reading_index t.width q))) (place_of_index t.width q i.0) (h.others (reading_index t.width q) (index_below q i) low)
 
-  pub best-is-nearest : (b : Option Higher) → SoFar le t.heights own t.width p (t.width * t.rows) b → Nearest le t p b
-  best-is-nearest None h = none-higher h
-  best-is-nearest (Some f) h =
+  pub best_is_nearest : (b : Option Higher) → SoFar le t.heights own t.width p (t.width * t.rows) b → Nearest le t p b
+  best_is_nearest None h = none_higher h
+  best_is_nearest (Some f) h =
       let below : reading_index t.width f.place < t.rows * t.width = omega (arith, h.below, mul_comm t.width t.rows) in
       let row : f.place.y < t.rows = subst (λ y. y < t.rows) (div-mul-add f.place.y t.width f.place.x h.column) (div_below (reading_index t.width f.place) t.width t.rows wide below) in
       let i : Inside t f.place = (h.column, row) in
       record {
         inside = i;
-        higher = higher-is f.place i ∙ ap not h.higher;
+        higher = higher_is f.place i ∙ ap not h.higher;
         distance_is = h.distance_is;
         nearest = λ q j up. ⊎_elim (λ less. omega arith) (λ same. omega (arith, same.0)) (against f h q j up);
         first = λ q j up e. ⊎_elim (λ less. absurd (omega arith)) (λ same. same.1) (against f h q j up);

@@ -50,29 +50,29 @@ walked_inside rows r y x j iny lt = either (eqb (x % 2) 0)
 
 module _ {X : Type 0} (d : X) (t : Terrain X) (all : length t.heights ≡ t.width * t.rows) where
   -- the height of a cell
-  pub height-or : (x y : ℕ) → x < t.width → y < t.rows → height_at t (record { x = x; y = y }) ≡ Some (height_or d t x y)
-  height-or x y inx iny =
+  pub height_is : (x y : ℕ) → x < t.width → y < t.rows → height_at t (record { x = x; y = y }) ≡ Some (height_or d t x y)
+  height_is x y inx iny =
       ap (λ b. cond b (slice_get t.heights (y * t.width + x)) None) (lt-ltb x t.width inx)
       ∙ slice_get-get_or t.heights (y * t.width + x) d (omega (arith, all, mul-add-lt y t.width x t.rows iny inx))
 
   -- a column
-  pub column-or : (r y x : ℕ) → x < t.width → y < t.rows → column_heights t r y x ≡ column_or d t r y x
-  column-or r y x inx iny =
+  pub column_is : (r y x : ℕ) → x < t.width → y < t.rows → column_heights t r y x ≡ column_or d t r y x
+  column_is r y x inx iny =
       joined_ones (λ j. option_to_list (height_at t (walked_place t r y x j))) (λ j. height_or d t x (walked_row (band_top r y) (band_rows t.rows r y) x j)) 0 (band_rows t.rows r y)
-      (λ j p q. ap option_to_list (height-or x (walked_row (band_top r y) (band_rows t.rows r y) x j) inx (walked_inside t.rows r y x j iny (omega arith))))
+      (λ j p q. ap option_to_list (height_is x (walked_row (band_top r y) (band_rows t.rows r y) x j) inx (walked_inside t.rows r y x j iny (omega arith))))
 
   -- columns
-  pub columns-or : (r y a b : ℕ) → b ≤ t.width → y < t.rows → columns_heights t r y a b ≡ columns_or d t r y a b
-  columns-or r y a b fits iny = joined_ext (column_heights t r y) (column_or d t r y) a (b - a) (λ x p q. column-or r y x (omega arith) iny)
+  pub columns_are : (r y a b : ℕ) → b ≤ t.width → y < t.rows → columns_heights t r y a b ≡ columns_or d t r y a b
+  columns_are r y a b fits iny = joined_ext (column_heights t r y) (column_or d t r y) a (b - a) (λ x p q. column_is r y x (omega arith) iny)
 
   -- a turn
-  pub turn-or : (r y x : ℕ) → x < t.width → y < t.rows → turn_calls t r y x ≡ turn_or d t r y x
-  turn-or r y x inx iny =
-      let e1 = columns-or r y (taken_before r x) (x - r) (omega arith) iny in
-      let e2 = columns-or r y (put_before t.width r x) (min t.width (x + r + 1)) (omega arith) iny in
-      let e3 = height-or x y inx iny in
+  pub turn_is : (r y x : ℕ) → x < t.width → y < t.rows → turn_calls t r y x ≡ turn_or d t r y x
+  turn_is r y x inx iny =
+      let e1 = columns_are r y (taken_before r x) (x - r) (omega arith) iny in
+      let e2 = columns_are r y (put_before t.width r x) (min t.width (x + r + 1)) (omega arith) iny in
+      let e3 = height_is x y inx iny in
       cc
 
   -- the row
-  pub row-or : (r y : ℕ) → y < t.rows → row_calls t r y ≡ flat_map (turn_or d t r y) (range_with_len 0 t.width)
-  row-or r y iny = joined_ext (turn_calls t r y) (turn_or d t r y) 0 t.width (λ x p q. turn-or r y x (omega arith) iny)
+  pub row_or : (r y : ℕ) → y < t.rows → row_calls t r y ≡ flat_map (turn_or d t r y) (range_with_len 0 t.width)
+  row_or r y iny = joined_ext (turn_calls t r y) (turn_or d t r y) 0 t.width (λ x p q. turn_is r y x (omega arith) iny)

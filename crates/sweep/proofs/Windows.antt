@@ -40,51 +40,51 @@ cell_tally p t a b = tally p (option_to_list (height_at t (record { x = a; y = b
 
 module _ {X : Type 0} (p : X → Bool) (t : Terrain X) (r x y : ℕ) where
   -- the way that a column is walked does not matter
-  pub tally-column : (a : ℕ) → tally p (column_heights t r y a) ≡ total (cell_tally p t a) (band_top r y) (band_rows t.rows r y)
-  tally-column a =
+  pub tally_column : (a : ℕ) → tally p (column_heights t r y a) ≡ total (cell_tally p t a) (band_top r y) (band_rows t.rows r y)
+  tally_column a =
       tally_joined p (λ j. option_to_list (height_at t (walked_place t r y a j))) 0 (band_rows t.rows r y)
       ∙ either_way (cell_tally p t a) (band_top r y) (band_rows t.rows r y) (eqb (a % 2) 0)
 
   -- what a test counts at a cell of the window, and 0 at any other
-  abbrev inWindow : ℕ → ℕ → ℕ
-  inWindow a b = cond (near r x a && near r y b) (cell_tally p t a b) 0
+  abbrev among_window : ℕ → ℕ → ℕ
+  among_window a b = cond (near r x a && near r y b) (cell_tally p t a b) 0
 
   -- the tally of a window, row by row
-  tally-rows : tally p (window_heights t r (record { x = x; y = y })) ≡ total (λ b. total (λ a. inWindow a b) 0 t.width) 0 t.rows
-  tally-rows =
+  tally_rows : tally p (window_heights t r (record { x = x; y = y })) ≡ total (λ b. total (λ a. among_window a b) 0 t.width) 0 t.rows
+  tally_rows =
       let here : Place = record { x = x; y = y } in
       let f : Place → List X = λ q. cond (reaches r here q) (option_to_list (height_at t q)) [] in
       let g : ℕ → List Place = λ b. map (λ a. record { x = a; y = b }) (range_with_len 0 t.width) in
       tally_joined_joined p f g 0 t.rows
-      ∙ total_ext (λ b. tally p (flat_map f (g b))) (λ b. total (λ a. inWindow a b) 0 t.width) 0 t.rows
+      ∙ total_ext (λ b. tally p (flat_map f (g b))) (λ b. total (λ a. among_window a b) 0 t.width) 0 t.rows
       (λ b _ _. tally_joined_map p f (λ a. record { x = a; y = b }) 0 t.width
-      ∙ total_ext (λ a. tally p (f (record { x = a; y = b }))) (λ a. inWindow a b) 0 t.width (λ a _ _. tally_cond p (near r x a && near r y b) (option_to_list (height_at t (record { x = a; y = b })))))
+      ∙ total_ext (λ a. tally p (f (record { x = a; y = b }))) (λ a. among_window a b) 0 t.width (λ a _ _. tally_cond p (near r x a && near r y b) (option_to_list (height_at t (record { x = a; y = b })))))
 
   -- the sum down a column of the grid is that down its part in the band
-  one-column : (a : ℕ) → y < t.rows → near r x a ≡ true → total (λ b. inWindow a b) 0 t.rows ≡ tally p (column_heights t r y a)
-  one-column a iny n =
-      let f : ℕ → ℕ = λ b. inWindow a b in
+  one_column : (a : ℕ) → y < t.rows → near r x a ≡ true → total (λ b. among_window a b) 0 t.rows ≡ tally p (column_heights t r y a)
+  one_column a iny n =
+      let f : ℕ → ℕ = λ b. among_window a b in
       let part = total_part f t.rows (y - r) (min t.rows (y + r + 1)) (omega arith) (omega arith)
       (λ i q. let z = near_low r y i q in let k : f i ≡ 0 = rw (n, z) in k)
       (λ i q s. let z = near_high r y i (omega arith) in let k : f i ≡ 0 = rw (n, z) in k) in
       let same = total_ext f (cell_tally p t a) (y - r) (min t.rows (y + r + 1) - (y - r)) (λ i u q. let z = near_yes r y i u (omega arith) in let k : f i ≡ cell_tally p t a i = rw (n, z) in k) in
-      part ∙ (same ∙ sym (tally-column a))
+      part ∙ (same ∙ sym (tally_column a))
 
   -- the columns around a cell count what its window counts
-  pub tally-window : x < t.width → y < t.rows → tally p (columns_heights t r y (x - r) (min t.width (x + r + 1))) ≡ tally p (window_heights t r (record { x = x; y = y }))
-  tally-window inx iny =
-      let f : ℕ → ℕ = λ a. total (λ b. inWindow a b) 0 t.rows in
+  pub tally_window : x < t.width → y < t.rows → tally p (columns_heights t r y (x - r) (min t.width (x + r + 1))) ≡ tally p (window_heights t r (record { x = x; y = y }))
+  tally_window inx iny =
+      let f : ℕ → ℕ = λ a. total (λ b. among_window a b) 0 t.rows in
       let part = total_part f t.width (x - r) (min t.width (x + r + 1)) (omega arith) (omega arith)
-      (λ i q. let z = near_low r x i q in total_none (λ b. inWindow i b) 0 t.rows (λ b _ _. rw z))
-      (λ i q s. let z = near_high r x i (omega arith) in total_none (λ b. inWindow i b) 0 t.rows (λ b _ _. rw z)) in
-      let same = total_ext f (λ a. tally p (column_heights t r y a)) (x - r) (min t.width (x + r + 1) - (x - r)) (λ i u v. one-column i iny (near_yes r x i u (omega arith))) in
+      (λ i q. let z = near_low r x i q in total_none (λ b. among_window i b) 0 t.rows (λ b _ _. rw z))
+      (λ i q s. let z = near_high r x i (omega arith) in total_none (λ b. among_window i b) 0 t.rows (λ b _ _. rw z)) in
+      let same = total_ext f (λ a. tally p (column_heights t r y a)) (x - r) (min t.width (x + r + 1) - (x - r)) (λ i u v. one_column i iny (near_yes r x i u (omega arith))) in
       tally_joined p (column_heights t r y) (x - r) (min t.width (x + r + 1) - (x - r))
-      ∙ (sym same ∙ (sym part ∙ (total_swap (λ a b. inWindow a b) 0 t.width 0 t.rows ∙ sym tally-rows)))
+      ∙ (sym same ∙ (sym part ∙ (total_swap (λ a b. among_window a b) 0 t.width 0 t.rows ∙ sym tally_rows)))
 
 -- the columns around a cell hold the heights of its window
 pub same_window : {X : Type 0} (le : X → X → Bool) (t : Terrain X) (r x y : ℕ) → x < t.width → y < t.rows
     → Same le (columns_heights t r y (x - r) (min t.width (x + r + 1))) (window_heights t r (record { x = x; y = y }))
-same_window le t r x y inx iny = record { tallies = λ p _. tally-window p t r x y inx iny }
+same_window le t r x y inx iny = record { tallies = λ p _. tally_window p t r x y inx iny }
 
 count_cell : {X : Type 0} (le : X → X → Bool) (h : X) (b : Bool) (o : Option X) → cond (b && is_not_higher le o (Some h)) 1 0 ≡ tally (λ k. le k h) (cond b (option_to_list o) [])
 count_cell le h true None = refl

@@ -3,7 +3,7 @@ use lib.ListN.{length-map}
 use Rattle.std.proofs.lemmas.Nat.{mul-add-lt, div_below, mod_below}
 use Rattle.grid.specs.declared.Place.{Place}
 use Rattle.grid.specs.Terrain.{heights_of}
-use Rattle.siting_box.proofs.Searches.{SoFar, passes, weighed, best-is-nearest}
+use Rattle.siting_box.proofs.Searches.{SoFar, passes, weighed, best_is_nearest}
 use Rattle.siting_box.proofs.search.nearest.Goals as goal
 use Rattle.siting_box.proofs.search.nearest.Goals.{then-not-is_not_higher, else-not-is_not_higher}
 
@@ -46,5 +46,5 @@ returns g c =
     let own = c.height_at-own.result in
     let long : length hs ≡ c.args.width * c.args.rows = length-map _ _ ∙ c.requires.whole in
     let all : c.loop-index.index ≡ c.args.width * c.args.rows = omega (arith, c.requires.whole) in
-    best-is-nearest le (record { width = c.args.width; rows = c.args.rows; heights = hs }) c.args.from own long (omega (arith, c.requires.inside.0)) c.requires.inside (c.height_at-own.ensures own) c.loop-index.best
+    best_is_nearest le (record { width = c.args.width; rows = c.args.rows; heights = hs }) c.args.from own long (omega (arith, c.requires.inside.0)) c.requires.inside (c.height_at-own.ensures own) c.loop-index.best
     (subst (λ n. SoFar le hs own c.args.width c.args.from n c.loop-index.best) all c.loop-index.invariant)

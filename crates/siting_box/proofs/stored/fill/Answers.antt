@@ -2,7 +2,7 @@ use Rattle.std.proofs.Common.{◌≡◌, ◌+◌, ◌<◌, [], ◌∷◌, ◌++�
 use Rattle.std.proofs.lemmas.List.{take_more_set, map_push, take_all}
 use Rattle.heights.specs.Meaning.{storage}
 use Rattle.siting_box.specs.Fresh.{fresh, heights_read}
-use Rattle.siting_box.proofs.Readings.{within, none-fails, joins}
+use Rattle.siting_box.proofs.Readings.{within, none_fails, joins}
 use Rattle.siting_box.proofs.stored.fill.Goals as goal
 use Rattle.siting_box.proofs.stored.fill.Goals.{in-Ok, in_default}
 
@@ -23,7 +23,7 @@ loop-index-preserved g c =
             c.match-read_at.auto.records ∙ inv.1,
             ap (take (i + 1)) w.records-is ∙ take_more_set c.loop-index.records i (fresh w.in-Ok.height) lt ∙ ap (λ t. t ++ (fresh w.in-Ok.height ∷ [])) inv.2 ∙ sym (map_push fresh (heights_read k bytes i) w.in-Ok.height) ∙ ap (map fresh) (sym j.1),
           )
-      | in_default w ↦ absurd (none-fails k bytes i (length c.args.records.now) w.in_default.field-0 (omega arith) c.requires.all_read inv.0 (sym w.in_default.ensures))
+      | in_default w ↦ absurd (none_fails k bytes i (length c.args.records.now) w.in_default.field-0 (omega arith) c.requires.all_read inv.0 (sym w.in_default.ensures))
     ]
 
 pub returns : goal.returns

@@ -1,7 +1,7 @@
 use Rattle.std.proofs.Common.{arith}
 use Rattle.sweep.specs.Inner.{terrain}
 use Rattle.sweep.proofs.Cells.{index_inside}
-use Rattle.sweep.proofs.Turns.{put_bounds, turn-takes-ready, turn-puts-ready, turn-done}
+use Rattle.sweep.proofs.Turns.{put_bounds, turn_takes_ready, turn_puts_ready, turn_done}
 use Rattle.sweep.proofs.turn.take_turn.Goals as goal
 
 pub change_columns-requires : goal.change_columns-requires
@@ -13,7 +13,7 @@ change_columns-requires g c =
       lawful = c.requires.lawful;
       whole = c.requires.whole;
       inside = (omega (arith, bounds.1), omega arith);
-      ready = turn-takes-ready g.H.Height.not_higher (terrain b c.args.records.now) b.radius b.y c.args.x
+      ready = turn_takes_ready g.H.Height.not_higher (terrain b c.args.records.now) b.radius b.y c.args.x
           c.taken_before-taken.result c.saturating_sub-behind.result c.put_before-put.result c.min-ahead.result c.taken_before-taken.ensures c.saturating_sub-behind.ensures c.put_before-put.ensures c.min-ahead.ensures
           (g.C.Counter.view c.args.counter.now) c.requires.inside c.requires.lawful.3 c.requires.places c.requires.held;
     }
@@ -27,7 +27,7 @@ change_columns-requires-2 g c =
       lawful = c.requires.lawful;
       whole = c.requires.whole;
       inside = (omega (arith, bounds.1), omega arith);
-      ready = turn-puts-ready g.H.Height.not_higher (terrain b c.args.records.now) b.radius b.y c.args.x
+      ready = turn_puts_ready g.H.Height.not_higher (terrain b c.args.records.now) b.radius b.y c.args.x
           c.taken_before-taken.result c.saturating_sub-behind.result c.put_before-put.result c.min-ahead.result c.taken_before-taken.ensures c.saturating_sub-behind.ensures c.put_before-put.ensures c.min-ahead.ensures
           (g.C.Counter.view c.args.counter.now) c.requires.inside c.requires.lawful.3 c.requires.places c.requires.held
           (g.C.Counter.view c.change_columns.new.counter) c.change_columns.ensures.ran;
@@ -45,7 +45,7 @@ returns g c =
     let sound = c.change_columns-2.ensures.sound in
     record {
       sound = c.ask-answer.ensures.sound sound;
-      turned = turn-done g.H.Height.not_higher (terrain b c.args.records.now) b.radius b.y c.args.x
+      turned = turn_done g.H.Height.not_higher (terrain b c.args.records.now) b.radius b.y c.args.x
           c.taken_before-taken.result c.saturating_sub-behind.result c.put_before-put.result c.min-ahead.result c.taken_before-taken.ensures c.saturating_sub-behind.ensures c.put_before-put.ensures c.min-ahead.ensures
           (g.C.Counter.view c.args.counter.now) c.requires.inside c.requires.lawful.3 c.requires.places c.requires.held
           (g.C.Counter.view c.change_columns.new.counter) c.change_columns.ensures.ran
