@@ -141,7 +141,8 @@ def main():
         text = open(path, encoding="utf-8").read()
         own = {old: new for old, new in table.items() if old not in brought(text)}
         for start, more in IN_CRATE.items():
-            own.update(more if path.startswith(start) else {})
+            if path.startswith(start):
+                own.update({old: new for old, new in more.items() if new not in names})
         texts[path] = respell(text, own, fields, False)
     for path in rt_files() + sorted(glob.glob("crates/*/must-fail/*.edit")):
         texts[path] = respell(open(path, encoding="utf-8").read(), table, fields, True)

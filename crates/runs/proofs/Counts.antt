@@ -7,7 +7,7 @@ use Rattle.std.proofs.lemmas.List.{same_lists, get_or-map, get_or-take, length-m
 use Rattle.grid.specs.declared.Plan.{Plan}
 use Rattle.grid.specs.declared.CellRecord.{CellRecord}
 use Rattle.grid.specs.Terrain.{Inside, reading_index}
-use Rattle.grid.specs.Window.{count_at_index}
+use Rattle.grid.specs.Window.{count_at}
 use Rattle.siting_box.specs.Contents.{Contents, contents, fits_in, well_fitted, plan_terrain, Counted}
 use Rattle.siting_box.specs.Searching.{place_of}
 use Rattle.siting_box.proofs.Plans.{fitting, there}
@@ -31,7 +31,7 @@ place_inside p records i wide lt =
 
 -- the count on record at an index, in a box whose counts are the defined ones
 count_at_index : {X : Type 0} (le : X → X → Bool) (p : Plan) (records : List (CellRecord X)) (i d : ℕ) → fits_in p (length records) ≡ true → i < p.width * p.rows → Counted le (contents (Some p) records)
-    → get_or (counts_of (Some p) records) i d ≡ cond (ltb (place_of p.width i).y p.swept) (count_at_index le (plan_terrain (Some p) records) p.radius (place_of p.width i)) 0
+    → get_or (counts_of (Some p) records) i d ≡ cond (ltb (place_of p.width i).y p.swept) (count_at le (plan_terrain (Some p) records) p.radius (place_of p.width i)) 0
 count_at_index {X} le p records i d fit lt counted =
     let n = p.width * p.rows in
     let count : CellRecord X → ℕ = λ c. c.count in

@@ -9,7 +9,7 @@ use Rattle.grid.specs.declared.Place.{Place}
 use Rattle.grid.specs.declared.Plan.{Plan}
 use Rattle.grid.specs.declared.CellRecord.{CellRecord}
 use Rattle.grid.specs.Terrain.{Inside}
-use Rattle.grid.specs.Window.{count_at_index, window_size, share_at}
+use Rattle.grid.specs.Window.{count_at, window_size, share_at}
 use Rattle.siting_box.specs.declared.denial.Denial.{Denial}
 use Rattle.siting_box.specs.declared.told.Told.{Told}
 use Rattle.siting_box.specs.Contents.{Contents, lawful_sizes, well_fitted, plan_terrain, radius_of, is_swept, Counted}
@@ -150,7 +150,7 @@ module _ {X C Y D : Type 0} (P : X → Y → Type 0) (k : Storage X C) (k' : Sto
       let inside = has_inside before.plan before.records x y (all_yes (tell_questions before x y) passed).1.0 in
       let same = counts_agree le le' t t' (grids_agree iso) (radius_of before.plan) q inside in
       same_told a.count a.cells a'.count a'.cells
-      (l.defined counted ∙ same.same_count ∙ ap (λ r. count_at_index le' t' r q) same_radius ∙ sym (l'.defined counted'))
+      (l.defined counted ∙ same.same_count ∙ ap (λ r. count_at le' t' r q) same_radius ∙ sym (l'.defined counted'))
       (l.cells ∙ same.same_size ∙ ap (λ r. window_size t' r q) same_radius ∙ sym l'.cells))
       s.answered.result s'.answered.result s.answered.denial s'.answered.denial s.answered.leaves s'.answered.leaves)
   step_together (shares x y) bytes bytes' old new old' new' outcome outcome' iso c e counted counted' s s' =
