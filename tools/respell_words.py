@@ -102,6 +102,8 @@ def respelled(names, fields, goals):
 
 
 def respell(text, table, fields, ghost_only):
+    if not table:
+        return text
     pattern = re.compile(r"(?<![\w\-'′◌·])(" + "|".join(sorted(map(re.escape, table), key=len, reverse=True)) + r")(?![\w\-'′◌·])")
 
     def one(match):
