@@ -4,7 +4,7 @@ use Rattle.heights.specs.Meaning.{Storage}
 use Rattle.counters.specs.Calls.{View}
 use Rattle.grid.specs.declared.Higher.{Higher}
 use Rattle.siting_box.specs.declared.denial.Denial.{Denial}
-use Rattle.siting_box.specs.declared.denial.Denial.TheVariants.{NoPlan, Sizes, TooFewRecords, Outside, StoredLength, Unread, NoRowLeft, TooFewPlaces, NotSwept}
+use Rattle.siting_box.specs.declared.denial.Denial.TheVariants.{NoPlan, Sizes, TooFewRecords, Outside, StoredLength, Unread, NoRowLeft, TooFewPlaces, NotSwept, RowsLeft}
 use Rattle.siting_box.specs.Contents.{Contents}
 use Rattle.siting_box.specs.Denials.{denied_by, first_no}
 use Rattle.siting_box.specs.declared.told.Told.{Told}
@@ -29,6 +29,7 @@ denial_answer (Unread cause x y) = answer.DeniedAt 6 x y
 denial_answer NoRowLeft = answer.Denied 7
 denial_answer TooFewPlaces = answer.Denied 8
 denial_answer NotSwept = answer.Denied 9
+denial_answer RowsLeft = answer.Denied 10
 
 -- the answer to open and to alter
 abbrev pub done_answer : {C : Type 0} → Result Unit (Denial C) → Answer

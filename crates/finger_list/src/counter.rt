@@ -1,9 +1,9 @@
 //! The finger list as a counter.
 ghost use Rattle.finger_list.specs.Memories.{view_of, Standing};
 
-use crate::limits::places_of;
 use crate::list::FingerList;
 use counters::counter::{Asked, Counter, Refusal};
+use counters::limits::places_of;
 use heights::height::Height;
 
 impl<'a, H: Height> Counter for FingerList<'a, H> {

@@ -5,7 +5,6 @@ mod change;
 pub mod counter;
 pub mod entry;
 mod finger;
-mod limits;
 mod links;
 pub mod list;
 mod memory;

@@ -9,10 +9,10 @@ ghost use Rattle.finger_list.specs.Memories.{view_of, TidyMemory, Standing};
 use crate::change::{add, clear, remove};
 use crate::entry::Entry;
 use crate::finger::{Finger, Fingers, Hand, finger_of};
-use crate::limits::{mileage_after, places_of};
 use crate::turn::{after_ask, after_put, after_take, counted_up};
 use crate::walk::{Way, walk};
 use counters::counter::{Asked, Refusal};
+use counters::limits::{mileage_after, places_of};
 use heights::height::Height;
 
 // The entries, how many of them hold a height, how many heights they stand for, the steps since begin, and the fingers,

@@ -6,7 +6,7 @@ pub const LONGEST_SIDE: usize = 1024;
 pub const LARGEST_RADIUS: usize = 255;
 
 // A place of a grid: its column from the west and its row from the north, both from 0.
-#[derive(Clone, Copy)]
+#[derive(Clone, Copy, PartialEq, Eq)]
 pub struct Place {
     pub x: usize,
     pub y: usize,
@@ -29,7 +29,7 @@ pub struct CellRecord<H> {
 }
 
 // A cell that is strictly higher than another, and their squared distance.
-#[derive(Clone, Copy)]
+#[derive(Clone, Copy, PartialEq, Eq)]
 pub struct Higher {
     pub place: Place,
     pub distance: u64,

@@ -1,3 +1,4 @@
 pub mod Sums
 pub mod Square
 pub mod Grids
+pub mod Listed

@@ -13,14 +13,15 @@ use Rattle.siting_box.specs.Calls.{Opened, AlteredPlan, SweptPlan, with_row}
 use Rattle.siting_box.proofs.Plans.{fitting}
 use Rattle.siting_box.proofs.Counting.{length_read}
 use Rattle.runs.specs.Running.{new_box}
-use Rattle.runs.proofs.Couples.{Both, both_set}
+use Rattle.runs.specs.Pointwise.{Pointwise}
+use Rattle.runs.proofs.Couples.{both_set}
 
 -- the plans are equal, there are equally many records, the plan fits, and the heights of each cell of the plan are partners
 pub record Paired {X Y : Type 0} (P : X → Y → Type 0) (b : Contents X) (b' : Contents Y) : Type 0 where
   pub plans : b.plan ≡ b'.plan
   pub fitted : length b.records ≡ length b'.records
   pub fits : well_fitted b.plan (length b.records) ≡ true
-  pub cells : Both P (plan_terrain b.plan b.records).heights (plan_terrain b'.plan b'.records).heights
+  pub cells : Pointwise P (plan_terrain b.plan b.records).heights (plan_terrain b'.plan b'.records).heights
 
 pub some_plan : (p q : Plan) → Some p ≡ Some q → p ≡ q
 some_plan p q e = cc
@@ -47,11 +48,11 @@ module _ {X Y : Type 0} (P : X → Y → Type 0) where
   pub plan_fits : (b : Contents X) (b' : Contents Y) (p : Plan) → Paired P b b' → b.plan ≡ Some p → fits_in p (length b.records) ≡ true
   plan_fits b b' p h e = subst (λ o. well_fitted o (length b.records) ≡ true) e h.fits
 
-  plan_cells : (b : Contents X) (b' : Contents Y) (p : Plan) → Paired P b b' → b.plan ≡ Some p → Both P (heights_of (take (p.width * p.rows) b.records)) (heights_of (take (p.width * p.rows) b'.records))
+  plan_cells : (b : Contents X) (b' : Contents Y) (p : Plan) → Paired P b b' → b.plan ≡ Some p → Pointwise P (heights_of (take (p.width * p.rows) b.records)) (heights_of (take (p.width * p.rows) b'.records))
   plan_cells b b' p h e =
       let e' : b'.plan ≡ Some p = sym h.plans ∙ e in
-      subst (λ o. Both P (heights_of (take (p.width * p.rows) b.records)) (plan_terrain o b'.records).heights) e'
-      (subst (λ o. Both P (plan_terrain o b.records).heights (plan_terrain b'.plan b'.records).heights) e h.cells)
+      subst (λ o. Pointwise P (heights_of (take (p.width * p.rows) b.records)) (plan_terrain o b'.records).heights) e'
+      (subst (λ o. Pointwise P (plan_terrain o b.records).heights (plan_terrain b'.plan b'.records).heights) e h.cells)
 
   front_length : {Z : Type 0} (n : ℕ) (cells records : List (CellRecord Z)) → n ≤ length records → length cells ≡ n → length (cells ++ drop n records) ≡ length records
   front_length n cells records le long =
@@ -60,7 +61,7 @@ module _ {X Y : Type 0} (P : X → Y → Type 0) where
       omega arith
 
   -- a plan and partnered heights before the records that stay
-  front_paired : (p : Plan) (cells records : List (CellRecord X)) (cells' records' : List (CellRecord Y)) → length cells ≡ p.width * p.rows → length cells' ≡ p.width * p.rows → length records ≡ length records' → fits_in p (length records) ≡ true → Both P (heights_of cells) (heights_of cells')
+  front_paired : (p : Plan) (cells records : List (CellRecord X)) (cells' records' : List (CellRecord Y)) → length cells ≡ p.width * p.rows → length cells' ≡ p.width * p.rows → length records ≡ length records' → fits_in p (length records) ≡ true → Pointwise P (heights_of cells) (heights_of cells')
       → Paired P (contents (Some p) (cells ++ drop (p.width * p.rows) records)) (contents (Some p) (cells' ++ drop (p.width * p.rows) records'))
   front_paired p cells records cells' records' long long' same fit both =
       let n = p.width * p.rows in
@@ -74,18 +75,18 @@ module _ {X Y : Type 0} (P : X → Y → Type 0) where
         plans = refl;
         fitted = l ∙ same ∙ sym l';
         fits = ap (fits_in p) l ∙ fit;
-        cells = subst (λ u. Both P (heights_of u) (heights_of (take n (cells' ++ drop n records')))) (sym t) (subst (λ u. Both P (heights_of cells) (heights_of u)) (sym t') both);
+        cells = subst (λ u. Pointwise P (heights_of u) (heights_of (take n (cells' ++ drop n records')))) (sym t) (subst (λ u. Pointwise P (heights_of cells) (heights_of u)) (sym t') both);
       }
 
   -- accepted opens of partnered heights
   pub opened_paired : {C D : Type 0} (k : Storage X C) (k' : Storage Y D) (width rows radius : ℕ) (bytes bytes' : List ℕ) (before after : Contents X) (before' after' : Contents Y) → length before.records ≡ length before'.records → lawful_sizes width rows radius ≡ true → leb (width * rows) (length before.records) ≡ true
-      → (o : Opened k width rows radius bytes before after) (o' : Opened k' width rows radius bytes' before' after') → Both P o.heights o'.heights → Paired P after after'
+      → (o : Opened k width rows radius bytes before after) (o' : Opened k' width rows radius bytes' before' after') → Pointwise P o.heights o'.heights → Paired P after after'
   opened_paired k k' width rows radius bytes bytes' before after before' after' same lawful room o o' both =
       let p : Plan = record { width = width; rows = rows; radius = radius; swept = 0 } in
       let long = length-map o.heights fresh ∙ length_read k bytes (width * rows) o.heights o.read in
       let long' = length-map o'.heights fresh ∙ length_read k' bytes' (width * rows) o'.heights o'.read in
       let fit : fits_in p (length before.records) ≡ true = and_from _ _ lawful (and_from _ _ (le-leb 0 rows (omega arith)) room) in
-      let fresh-both : Both P (heights_of (map fresh o.heights)) (heights_of (map fresh o'.heights)) = subst (λ u. Both P u (heights_of (map fresh o'.heights))) (sym (heights_fresh o.heights)) (subst (λ u. Both P o.heights u) (sym (heights_fresh o'.heights)) both) in
+      let fresh-both : Pointwise P (heights_of (map fresh o.heights)) (heights_of (map fresh o'.heights)) = subst (λ u. Pointwise P u (heights_of (map fresh o'.heights))) (sym (heights_fresh o.heights)) (subst (λ u. Pointwise P o.heights u) (sym (heights_fresh o'.heights)) both) in
       let there = front_paired p (map fresh o.heights) before.records (map fresh o'.heights) before'.records long long' same fit fresh-both in
       subst (λ u. Paired P u after') (contents_are after (Some p) _ o.plan o.records) (subst (λ u. Paired P (contents (Some p) (map fresh o.heights ++ drop (width * rows) before.records)) u) (contents_are after' (Some p) _ o'.plan o'.records) there)
 
@@ -109,7 +110,7 @@ module _ {X Y : Type 0} (P : X → Y → Type 0) where
       let hs : heights_of a.cells ≡ set (heights_of (take n before.records)) (y * p.width + x) a.height = a.altered.heights in
       let hs' : heights_of a'.cells ≡ set (heights_of (take n before'.records)) (y * p.width + x) a'.height = a'.altered.heights ∙ ap (λ (q : Plan). set (heights_of (take (q.width * q.rows) before'.records)) (y * q.width + x) a'.height) e in
       let both-before = plan_cells before before' p h a.plan_is in
-      let both : Both P (heights_of a.cells) (heights_of a'.cells) = subst (λ u. Both P u (heights_of a'.cells)) (sym hs) (subst (λ u. Both P (set (heights_of (take n before.records)) (y * p.width + x) a.height) u) (sym hs') (both_set P (heights_of (take n before.records)) (heights_of (take n before'.records)) (y * p.width + x) a.height a'.height both-before pair)) in
+      let both : Pointwise P (heights_of a.cells) (heights_of a'.cells) = subst (λ u. Pointwise P u (heights_of a'.cells)) (sym hs) (subst (λ u. Pointwise P (set (heights_of (take n before.records)) (y * p.width + x) a.height) u) (sym hs') (both_set P (heights_of (take n before.records)) (heights_of (take n before'.records)) (y * p.width + x) a.height a'.height both-before pair)) in
       let there = front_paired p a.cells before.records a'.cells before'.records long long' h.fitted fit both in
       subst (λ u. Paired P u after') (contents_are after (Some p) _ a.plan_after a.records_after) (subst (λ u. Paired P (contents (Some p) (a.cells ++ drop n before.records)) u) (contents_are after' (Some p) _ plan-after' records-after') there)
 
@@ -130,6 +131,6 @@ module _ {X Y : Type 0} (P : X → Y → Type 0) where
       let long' = cells_length p (length before.records) before'.records s'.cells fit h.fitted (s'.row.length_is ∙ ap (λ (q : Plan). length (take (q.width * q.rows) before'.records)) e) in
       let hs : heights_of s.cells ≡ heights_of (take n before.records) = s.row.heights in
       let hs' : heights_of s'.cells ≡ heights_of (take n before'.records) = s'.row.heights ∙ ap (λ (q : Plan). heights_of (take (q.width * q.rows) before'.records)) e in
-      let both : Both P (heights_of s.cells) (heights_of s'.cells) = subst (λ u. Both P u (heights_of s'.cells)) (sym hs) (subst (λ u. Both P (heights_of (take n before.records)) u) (sym hs') (plan_cells before before' p h s.plan_is)) in
+      let both : Pointwise P (heights_of s.cells) (heights_of s'.cells) = subst (λ u. Pointwise P u (heights_of s'.cells)) (sym hs) (subst (λ u. Pointwise P (heights_of (take n before.records)) u) (sym hs') (plan_cells before before' p h s.plan_is)) in
       let there = front_paired (with_row p) s.cells before.records s'.cells before'.records long long' h.fitted fit-after both in
       subst (λ u. Paired P u after') (contents_are after (Some (with_row p)) _ s.plan_after s.records_after) (subst (λ u. Paired P (contents (Some (with_row p)) (s.cells ++ drop n before.records)) u) (contents_are after' (Some (with_row p)) _ plan-after' records-after') there)

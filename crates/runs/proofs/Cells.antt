@@ -3,7 +3,7 @@ use Rattle.std.proofs.Common.{◌≡◌, ℕ, Bool, true, false, List, [], ◌�
 use Rattle.std.specs.List.{AllByRecursion as All}
 use Rattle.grid.specs.declared.Place.{Place}
 use Rattle.siting_box.specs.declared.denial.Denial.{Denial}
-use Rattle.siting_box.specs.declared.denial.Denial.TheVariants.{NoPlan, Sizes, TooFewRecords, Outside, StoredLength, Unread, NoRowLeft, TooFewPlaces, NotSwept}
+use Rattle.siting_box.specs.declared.denial.Denial.TheVariants.{NoPlan, Sizes, TooFewRecords, Outside, StoredLength, Unread, NoRowLeft, TooFewPlaces, NotSwept, RowsLeft}
 use Rattle.siting_box.specs.Denials.{number, first_no}
 use Rattle.siting_box.specs.Calls.{Carries}
 use Rattle.runs.specs.Running.{denied, cell_of}
@@ -52,6 +52,7 @@ no_cell (Unread c x y) ne = absurd (ne refl)
 no_cell NoRowLeft ne = refl
 no_cell TooFewPlaces ne = refl
 no_cell NotSwept ne = refl
+no_cell RowsLeft ne = refl
 
 place_same : (x y x' y' : ℕ) → x ≡ x' → y ≡ y' → ◌≡◌ {A = Place} (record { x = x; y = y }) (record { x = x'; y = y' })
 place_same x y x' y' e f =
@@ -69,6 +70,7 @@ carried Q (Unread c x' y') x y e v f = let same = f c x' y' v in ap Some (place_
 carried Q NoRowLeft x y e v f = absurd (omega arith)
 carried Q TooFewPlaces x y e v f = absurd (omega arith)
 carried Q NotSwept x y e v f = absurd (omega arith)
+carried Q RowsLeft x y e v f = absurd (omega arith)
 
 module _ {C D : Type 0} (P : C → (x y : ℕ) → Type 0) (Q : D → (x y : ℕ) → Type 0) where
   -- denials by the same number carry the same cell, if those by question 6 do
@@ -82,6 +84,7 @@ module _ {C D : Type 0} (P : C → (x y : ℕ) → Type 0) (Q : D → (x y : ℕ
   same_cell NoRowLeft d' e u v f = sym (no_cell d' (λ s. omega arith))
   same_cell TooFewPlaces d' e u v f = sym (no_cell d' (λ s. omega arith))
   same_cell NotSwept d' e u v f = sym (no_cell d' (λ s. omega arith))
+  same_cell RowsLeft d' e u v f = sym (no_cell d' (λ s. omega arith))
 
 -- equal numbers and cells show the same
 pub same_denied : (n m : ℕ) (a b : Option Place) → n ≡ m → a ≡ b → denied n a ≡ denied m b

@@ -8,19 +8,16 @@ use Rattle.grid.specs.declared.Plan.{Plan}
 use Rattle.grid.specs.declared.CellRecord.{CellRecord}
 use Rattle.grid.specs.Terrain.{Inside, reading_index}
 use Rattle.grid.specs.Window.{count_at}
-use Rattle.siting_box.specs.Contents.{Contents, contents, fits_in, well_fitted, plan_terrain, Counted}
+use Rattle.siting_box.specs.Contents.{Contents, contents, fits_in, well_fitted, plan_terrain, Counted, counts_of, counts_on}
 use Rattle.siting_box.specs.Searching.{place_of}
-use Rattle.siting_box.proofs.Plans.{fitting, there}
+use Rattle.siting_box.proofs.Plans.{fitting}
+use Rattle.siting_box.proofs.Totals.{count_recorded}
 use Rattle.siting_box.proofs.Searches.{index_of_place}
 use Rattle.grid.specs.Alike.{Alike}
 use Rattle.agreement.proofs.Ranks.{counts_agree}
-use Rattle.runs.specs.Running.{counts_of, counts_on}
 use Rattle.runs.proofs.Couples.{Compares}
 use Rattle.runs.proofs.Boxes.{Paired}
 use Rattle.runs.proofs.Grids.{paired_alike}
-
-same_number : (a b : ℕ) → Some a ≡ Some b → a ≡ b
-same_number a b e = cc
 
 -- the place of an index of the plan's cells lies in the grid
 place_inside : {X : Type 0} (p : Plan) (records : List (CellRecord X)) (i : ℕ) → 1 ≤ p.width → i < p.width * p.rows → Inside (plan_terrain (Some p) records) (place_of p.width i)
@@ -32,19 +29,11 @@ place_inside p records i wide lt =
 -- the count on record at an index, in a box whose counts are the defined ones
 count_at_index : {X : Type 0} (le : X → X → Bool) (p : Plan) (records : List (CellRecord X)) (i d : ℕ) → fits_in p (length records) ≡ true → i < p.width * p.rows → Counted le (contents (Some p) records)
     → get_or (counts_of (Some p) records) i d ≡ cond (ltb (place_of p.width i).y p.swept) (count_at le (plan_terrain (Some p) records) p.radius (place_of p.width i)) 0
-count_at_index {X} le p records i d fit lt counted =
-    let n = p.width * p.rows in
-    let count : CellRecord X → ℕ = λ c. c.count in
-    let facts = fitting p (length records) fit in
-    let room : p.width * p.rows ≤ length records = facts.recorded in
-    let wide : 1 ≤ p.width = facts.some_columns in
-    let found = there records i (omega arith) in
-    let long : length (take n records) ≡ n = length-take-le n records room in
-    let lt' : i < length (take n records) = omega arith in
-    let here : get_or (map count (take n records)) i d ≡ found.0.count = get_or-map count (take n records) i found.0 d lt' ∙ ap count (get_or-take n records i found.0 lt ∙ found.2 found.0) in
-    let index : reading_index p.width (place_of p.width i) ≡ i = index_of_place p.width i wide in
-    let on : option_map count (slice_get records (reading_index p.width (place_of p.width i))) ≡ Some found.0.count = ap (λ j. option_map count (slice_get records j)) index ∙ ap (option_map count) found.1 in
-    here ∙ same_number _ _ (sym on ∙ counted (place_of p.width i) (place_inside p records i wide lt))
+count_at_index le p records i d fit lt counted =
+    let wide : 1 ≤ p.width = (fitting p (length records) fit).some_columns in
+    let q = place_of p.width i in
+    let inside = place_inside p records i wide lt in
+    ap (λ j. get_or (counts_of (Some p) records) j d) (sym (index_of_place p.width i wide)) ∙ count_recorded le p records q.x q.y d fit inside.0 inside.1 counted
 
 counts_same : {X Y : Type 0} (le : X → X → Bool) (le' : Y → Y → Bool) (o : Option Plan) (records : List (CellRecord X)) (records' : List (CellRecord Y)) → well_fitted o (length records) ≡ true → well_fitted o (length records') ≡ true → Counted le (contents o records) → Counted le' (contents o records') → Alike le le' (plan_terrain o records) (plan_terrain o records')
     → counts_of o records ≡ counts_of o records'

@@ -1,14 +1,8 @@
 -- Lists whose elements at the same index are partners.
-use Rattle.std.proofs.Common.{◌≡◌, ℕ, zero, suc, Bool, List, [], ◌∷◌, ◌++◌, length, set, Some, None, Option, refl, ap}
+use Rattle.std.proofs.Common.{◌≡◌, ℕ, zero, suc, Bool, List, [], ◌∷◌, ◌++◌, map, length, set, Some, None, Option, refl, ap, arith}
 use Rattle.std.specs.List.{slice_get}
 use Rattle.grid.specs.Window.{is_not_higher}
-
--- equally long lists of partners
-abbrev pub Both : {X Y : Type 0} → (X → Y → Type 0) → List X → List Y → Type 0
-Both P [] [] = Unit {0}
-Both P [] (y ∷ ys) = ⊥
-Both P (x ∷ xs) [] = ⊥
-Both P (x ∷ xs) (y ∷ ys) = P x y × Both P xs ys
+use Rattle.runs.specs.Pointwise.{Pointwise}
 
 -- two partners, or nothing twice
 abbrev pub Couple : {X Y : Type 0} → (X → Y → Type 0) → Option X → Option Y → Type 0
@@ -21,27 +15,33 @@ Couple P (Some x) (Some y) = P x y
 abbrev pub Compares : {X Y : Type 0} → (X → X → Bool) → (Y → Y → Bool) → (X → Y → Type 0) → Type 0
 Compares {X} {Y} le le' P = (a b : X) (a' b' : Y) → P a a' → P b b' → le a b ≡ le' a' b'
 
+-- what a function makes of an element of a list
+pub nth_map : {A B : Type 0} (f : A → B) (xs : List A) (i : ℕ) (x : A) → slice_get xs i ≡ Some x → slice_get (map f xs) i ≡ Some (f x)
+nth_map f [] i x e = let z : ◌≡◌ {A = ℕ} 0 1 = cc in absurd (omega arith)
+nth_map f (y ∷ xs) zero x e = let same : y ≡ x = cc in ap (λ z. Some (f z)) same
+nth_map f (y ∷ xs) (suc i) x e = nth_map f xs i x e
+
 module _ {X Y : Type 0} (P : X → Y → Type 0) where
-  pub both_length : (xs : List X) (ys : List Y) → Both P xs ys → length xs ≡ length ys
+  pub both_length : (xs : List X) (ys : List Y) → Pointwise P xs ys → length xs ≡ length ys
   both_length [] [] b = refl
   both_length [] (y ∷ ys) b = absurd b
   both_length (x ∷ xs) [] b = absurd b
   both_length (x ∷ xs) (y ∷ ys) b = ap suc (both_length xs ys b.1)
 
-  pub both_push : (xs : List X) (ys : List Y) (x : X) (y : Y) → Both P xs ys → P x y → Both P (xs ++ x ∷ []) (ys ++ y ∷ [])
+  pub both_push : (xs : List X) (ys : List Y) (x : X) (y : Y) → Pointwise P xs ys → P x y → Pointwise P (xs ++ x ∷ []) (ys ++ y ∷ [])
   both_push [] [] x y b p = (p, tt)
   both_push [] (z ∷ ys) x y b p = absurd b
   both_push (z ∷ xs) [] x y b p = absurd b
   both_push (z ∷ xs) (w ∷ ys) x y b p = (b.0, both_push xs ys x y b.1 p)
 
-  pub both_set : (xs : List X) (ys : List Y) (i : ℕ) (x : X) (y : Y) → Both P xs ys → P x y → Both P (set xs i x) (set ys i y)
+  pub both_set : (xs : List X) (ys : List Y) (i : ℕ) (x : X) (y : Y) → Pointwise P xs ys → P x y → Pointwise P (set xs i x) (set ys i y)
   both_set [] [] i x y b p = tt
   both_set [] (z ∷ ys) i x y b p = absurd b
   both_set (z ∷ xs) [] i x y b p = absurd b
   both_set (z ∷ xs) (w ∷ ys) zero x y b p = (p, b.1)
   both_set (z ∷ xs) (w ∷ ys) (suc i) x y b p = (b.0, both_set xs ys i x y b.1 p)
 
-  pub both_nth : (xs : List X) (ys : List Y) (i : ℕ) → Both P xs ys → Couple P (slice_get xs i) (slice_get ys i)
+  pub both_nth : (xs : List X) (ys : List Y) (i : ℕ) → Pointwise P xs ys → Couple P (slice_get xs i) (slice_get ys i)
   both_nth [] [] i b = tt
   both_nth [] (z ∷ ys) i b = absurd b
   both_nth (z ∷ xs) [] i b = absurd b

@@ -9,7 +9,8 @@ use Rattle.grid.specs.Terrain.{Terrain, reading_index, height_at}
 use Rattle.grid.specs.Alike.{AllHeights, Alike}
 use Rattle.siting_box.specs.Contents.{Contents, well_fitted, plan_terrain}
 use Rattle.siting_box.proofs.Plans.{fitting}
-use Rattle.runs.proofs.Couples.{Both, Couple, Compares, both_nth, couples_compare}
+use Rattle.runs.specs.Pointwise.{Pointwise}
+use Rattle.runs.proofs.Couples.{Couple, Compares, both_nth, couples_compare}
 use Rattle.runs.proofs.Boxes.{Paired, fits'}
 
 -- the grid of a plan that fits has all its heights
@@ -30,7 +31,7 @@ same_rows (Some p) records records' = refl
 
 module _ {X Y : Type 0} (P : X → Y → Type 0) (le : X → X → Bool) (le' : Y → Y → Bool) where
   -- the heights at a place are partners, or there is none in both grids
-  couple_at : (width rows : ℕ) (hs : List X) (gs : List Y) (q : Place) → Both P hs gs → Couple P (height_at (record { width = width; rows = rows; heights = hs }) q) (height_at (record { width = width; rows = rows; heights = gs }) q)
+  couple_at : (width rows : ℕ) (hs : List X) (gs : List Y) (q : Place) → Pointwise P hs gs → Couple P (height_at (record { width = width; rows = rows; heights = hs }) q) (height_at (record { width = width; rows = rows; heights = gs }) q)
   couple_at width rows hs gs q both = by_column (ltb q.x width)
     where
       by_column : (t : Bool) → Couple P (cond t (slice_get hs (reading_index width q)) None) (cond t (slice_get gs (reading_index width q)) None)
@@ -38,7 +39,7 @@ module _ {X Y : Type 0} (P : X → Y → Type 0) (le : X → X → Bool) (le' : 
       by_column false = tt
 
   -- the same of two grids that are equally wide
-  grids_compare : (t : Terrain X) (t' : Terrain Y) → t.width ≡ t'.width → Both P t.heights t'.heights → (q : Place) → Couple P (height_at t q) (height_at t' q)
+  grids_compare : (t : Terrain X) (t' : Terrain Y) → t.width ≡ t'.width → Pointwise P t.heights t'.heights → (q : Place) → Couple P (height_at t q) (height_at t' q)
   grids_compare t t' e both q =
       subst (λ w. Couple P (height_at t q) (height_at (record { width = w; rows = t'.rows; heights = t'.heights }) q)) e (couple_at t.width t.rows t.heights t'.heights q both)
 

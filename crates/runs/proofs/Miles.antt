@@ -14,7 +14,7 @@ use Rattle.runs.proofs.Boxes.{Paired, some_plan}
 use Rattle.runs.proofs.Grids.{paired_alike}
 
 -- an accepted sweep with a finger list swept a row of the box's grid
-row_swept : {X : Type 0} (le : X → X → Bool) (before after : Contents X) (old new : View X) (mileage : ℕ) → (s : SweptPlan le before after old new mileage) → by_fingers old.rule ≡ true → FingerSwept le (plan_terrain (Some s.plan) before.records) s.plan.radius s.plan.swept mileage
+pub row_swept : {X : Type 0} (le : X → X → Bool) (before after : Contents X) (old new : View X) (mileage : ℕ) → (s : SweptPlan le before after old new mileage) → by_fingers old.rule ≡ true → FingerSwept le (plan_terrain (Some s.plan) before.records) s.plan.radius s.plan.swept mileage
 row_swept le before after old new mileage s fingers = record {
   before = take (s.plan.width * s.plan.rows) before.records;
   after = s.cells;

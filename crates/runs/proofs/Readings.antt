@@ -8,7 +8,8 @@ use Rattle.siting_box.specs.Stored.{stored_at, read_more, read_first}
 use Rattle.runs.specs.declared.call.Call.{Call}
 use Rattle.runs.specs.Calling.{form, brought, brings}
 use Rattle.runs.specs.Matching.{Partners, ReadAt}
-use Rattle.runs.proofs.Couples.{Both, both_push}
+use Rattle.runs.specs.Pointwise.{Pointwise}
+use Rattle.runs.proofs.Couples.{both_push}
 
 -- two readings of one stored height: partners, or none twice
 abbrev pub OneAlike : {X C Y D : Type 0} → (X → Y → Type 0) → Result X C → Result Y D → Type 0
@@ -19,7 +20,7 @@ OneAlike P (Err c) (Err d) = Unit {0}
 
 -- two readings of many: partners, or failures at the same index
 abbrev pub AllAlike : {X C Y D : Type 0} → (X → Y → Type 0) → Result (List X) (ℕ × C) → Result (List Y) (ℕ × D) → Type 0
-AllAlike P (Ok hs) (Ok gs) = Both P hs gs
+AllAlike P (Ok hs) (Ok gs) = Pointwise P hs gs
 AllAlike P (Ok hs) (Err f) = ⊥
 AllAlike P (Err e) (Ok gs) = ⊥
 AllAlike P (Err e) (Err f) = e.0 ≡ f.0
@@ -64,7 +65,7 @@ module _ {X C Y D : Type 0} (P : X → Y → Type 0) where
       more_alike n (read_first k bytes n) (read_first k' bytes' n) (stored_at k bytes n) (stored_at k' bytes' n) (first_alike k k' bytes bytes' n (λ i lt. each i (omega arith))) (each n (omega arith))
 
   -- heights read are partners
-  pub heights_alike : (r : Result (List X) (ℕ × C)) (r' : Result (List Y) (ℕ × D)) (hs : List X) (gs : List Y) → AllAlike P r r' → r ≡ Ok hs → r' ≡ Ok gs → Both P hs gs
+  pub heights_alike : (r : Result (List X) (ℕ × C)) (r' : Result (List Y) (ℕ × D)) (hs : List X) (gs : List Y) → AllAlike P r r' → r ≡ Ok hs → r' ≡ Ok gs → Pointwise P hs gs
   heights_alike r r' hs gs p e f = subst (λ t. AllAlike {C = C} P (Ok hs) t) f (subst (λ t. AllAlike P t r') e p)
 
   -- failures are at the same index

@@ -1,5 +1,5 @@
 -- Partnered calls on paired boxes show the same and leave paired boxes.
-use Rattle.std.proofs.Common.{◌≡◌, ℕ, ◌+◌, ◌*◌, ◌/◌, ◌%◌, ◌<◌, Bool, true, eqb, ltb, leb, List, [], ◌∷◌, length, is_some, is_ok, Some, None, Ok, Err, sum_by, Option, Result, sym, refl, ap, ◌∙◌, subst, arith}
+use Rattle.std.proofs.Common.{◌≡◌, ℕ, ◌+◌, ◌*◌, ◌/◌, ◌%◌, ◌<◌, Bool, true, eqb, ltb, leb, List, [], ◌∷◌, length, is_some, is_ok, Some, None, Ok, Err, sum, Option, Result, sym, refl, ap, ◌∙◌, subst, arith}
 use Rattle.std.specs.List.{AllByRecursion as All}
 use Rattle.std.proofs.lemmas.Nat.{div-mul-add, mod-mul-add}
 use Rattle.std.proofs.lemmas.Bool.{and_parts, ltb-true, true≢false}
@@ -12,15 +12,15 @@ use Rattle.grid.specs.Terrain.{Inside}
 use Rattle.grid.specs.Window.{count_at, window_size, share_at}
 use Rattle.siting_box.specs.declared.denial.Denial.{Denial}
 use Rattle.siting_box.specs.declared.told.Told.{Told}
-use Rattle.siting_box.specs.Contents.{Contents, lawful_sizes, well_fitted, plan_terrain, radius_of, is_swept, Counted}
+use Rattle.siting_box.specs.Contents.{Contents, lawful_sizes, well_fitted, plan_terrain, radius_of, is_swept, all_swept, Counted, total_on}
 use Rattle.siting_box.specs.Stored.{read_first}
 use Rattle.siting_box.specs.Denials.{number, denied_by, first_no}
-use Rattle.siting_box.specs.Calls.{has_cell, row_left, has_places, open_questions, OpenLeaves, FirstUnread, alter_questions, AlterLeaves, CellUnread, sweep_questions, SweepLeaves, tell_questions, TellAnswer, share_questions, ShareAnswer, nearest_questions, NearestAnswer}
+use Rattle.siting_box.specs.Calls.{has_cell, row_left, has_places, open_questions, OpenLeaves, FirstUnread, alter_questions, AlterLeaves, CellUnread, sweep_questions, SweepLeaves, tell_questions, TellAnswer, share_questions, ShareAnswer, nearest_questions, NearestAnswer, total_questions}
 use Rattle.siting_box.proofs.Counting.{open_keeps, alter_keeps, sweep_keeps}
 use Rattle.grid.specs.Alike.{Alike}
 use Rattle.agreement.proofs.Ranks.{counts_agree, nearest_agree}
 use Rattle.runs.specs.Calling.{Form, opens, alters, sweeps, tells, shares, nears, totals, brings}
-use Rattle.runs.specs.Running.{Outcome, denied, done, swept, told, shared, nearest, cell_of, outcome_of, all_swept, total_questions, total_on, total_shows, StepOf}
+use Rattle.runs.specs.Running.{Outcome, denied, done, swept, told, shared, nearest, cell_of, outcome_of, total_shows, StepOf}
 use Rattle.runs.proofs.Couples.{Compares}
 use Rattle.runs.proofs.Readings.{Coupled, first_alike, heights_alike, failures_alike, one_height}
 use Rattle.runs.proofs.Denials.{open_alike, alter_alike, alter_reads}
@@ -176,7 +176,7 @@ module _ {X C Y D : Type 0} (P : X → Y → Type 0) (k : Storage X C) (k' : Sto
   step_together totals bytes bytes' old new old' new' outcome outcome' iso c e counted counted' s s' =
       record {
         paired = same_paired P before after before' after' s.0 s'.0 h;
-        outcomes = s.1 ∙ ap (λ n. total_shows n (total_on before)) total_alike ∙ ap (λ counts. total_shows (first_no (total_questions before')) (sum_by (λ count. count) counts)) (paired_counts P le le' before before' iso h counted counted') ∙ sym s'.1;
+        outcomes = s.1 ∙ ap (λ n. total_shows n (total_on before)) total_alike ∙ ap (λ counts. total_shows (first_no (total_questions before')) (sum counts)) (paired_counts P le le' before before' iso h counted counted') ∙ sym s'.1;
       }
 
 -- each call keeps the counts the defined ones, in a box whose plan fits

@@ -1,3 +1,4 @@
+pub mod Pointwise
 pub mod Calling
 pub mod Matching
 pub mod Running

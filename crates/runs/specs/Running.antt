@@ -1,16 +1,15 @@
 -- What the calls of a list do to a box one after another, and what is seen of it after each.
-use Rattle.std.specs.Prelude.{◌≡◌, ℕ, ◌*◌, Bool, false, List, [], ◌∷◌, map, take, Some, None, Ok, Err, sum_by, Option, Result, ◌==◌}
+use Rattle.std.specs.Prelude.{◌≡◌, ℕ, Bool, List, [], ◌∷◌, Some, None, Ok, Err, Option, Result}
 use Rattle.heights.specs.Meaning.{Storage}
 use Rattle.counters.specs.Calls.{View}
 use Rattle.grid.specs.declared.Higher.{Higher}
 use Rattle.grid.specs.declared.Place.{Place}
-use Rattle.grid.specs.declared.Plan.{Plan}
 use Rattle.grid.specs.declared.CellRecord.{CellRecord}
 use Rattle.siting_box.specs.declared.denial.Denial.{Denial}
-use Rattle.siting_box.specs.declared.denial.Denial.TheVariants.{NoPlan, Sizes, TooFewRecords, Outside, StoredLength, Unread, NoRowLeft, TooFewPlaces, NotSwept}
-use Rattle.siting_box.specs.Contents.{Contents, contents}
+use Rattle.siting_box.specs.declared.denial.Denial.TheVariants.{NoPlan, Sizes, TooFewRecords, Outside, StoredLength, Unread, NoRowLeft, TooFewPlaces, NotSwept, RowsLeft}
+use Rattle.siting_box.specs.Contents.{Contents, contents, counts_on, total_on}
 use Rattle.siting_box.specs.Denials.{number, denied_by, first_no}
-use Rattle.siting_box.specs.Calls.{holds_plan, open_questions, OpenLeaves, alter_questions, AlterLeaves, sweep_questions, SweepLeaves, tell_questions, TellAnswer, share_questions, ShareAnswer, nearest_questions, NearestAnswer}
+use Rattle.siting_box.specs.Calls.{open_questions, OpenLeaves, alter_questions, AlterLeaves, sweep_questions, SweepLeaves, tell_questions, TellAnswer, share_questions, ShareAnswer, nearest_questions, NearestAnswer, total_questions}
 use Rattle.runs.specs.declared.call.Call.{Call}
 use Rattle.runs.specs.Calling.{Form, opens, alters, sweeps, tells, shares, nears, totals, form, brought}
 
@@ -35,33 +34,12 @@ cell_of (Unread cause x y) = Some (record { x = x; y = y })
 cell_of NoRowLeft = None
 cell_of TooFewPlaces = None
 cell_of NotSwept = None
+cell_of RowsLeft = None
 
 -- what the result of a call shows
 abbrev pub outcome_of : {A C : Type 0} → (A → Outcome) → Result A (Denial C) → Outcome
 outcome_of shows (Ok answer) = shows answer
 outcome_of shows (Err denial) = denied (number denial) (cell_of denial)
-
--- the counts on record of a plan's cells, in reading order; none without a plan
-abbrev pub counts_of : {X : Type 0} → Option Plan → List (CellRecord X) → List ℕ
-counts_of None records = []
-counts_of (Some p) records = map (λ c. c.count) (take (p.width * p.rows) records)
-
--- those of a box
-abbrev pub counts_on : {X : Type 0} → Contents X → List ℕ
-counts_on b = counts_of b.plan b.records
-
--- 10: are all rows swept
-abbrev pub all_swept : Option Plan → Bool
-all_swept None = false
-all_swept (Some p) = p.swept == p.rows
-
--- what total asks: 1 the plan, 10 that all rows are swept
-abbrev pub total_questions : {X : Type 0} → Contents X → List (ℕ × Bool)
-total_questions b = (1, holds_plan b) ∷ ((10, all_swept b.plan) ∷ [])
-
--- the sum of the counts on record
-abbrev pub total_on : {X : Type 0} → Contents X → ℕ
-total_on b = sum_by (λ count. count) (counts_on b)
 
 -- what total shows: the number of the question that was answered no, or the sum
 abbrev pub total_shows : Option ℕ → ℕ → Outcome

@@ -2,8 +2,8 @@
 ghost use Rattle.shift_array.specs.Memories.{view_of, Sorted};
 
 use crate::array::ShiftArray;
-use crate::limits::places_of;
 use counters::counter::{Asked, Counter, Refusal};
+use counters::limits::places_of;
 use heights::height::Height;
 
 impl<'a, H: Height> Counter for ShiftArray<'a, H> {

@@ -6,7 +6,6 @@ mod change;
 mod count;
 pub mod counter;
 pub mod entry;
-mod limits;
 mod memory;
 mod place;
 mod shifting;

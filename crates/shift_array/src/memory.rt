@@ -7,8 +7,8 @@ ghost use Rattle.shift_array.specs.Memories.{view_of, TidyMemory, Sorted};
 use crate::change::{add, remove};
 use crate::count::count_up_to;
 use crate::entry::Entry;
-use crate::limits::{mileage_after, places_of};
 use counters::counter::Refusal;
+use counters::limits::{mileage_after, places_of};
 use heights::height::Height;
 
 // The entries, how many of them are used, how many heights they stand for, and the steps since begin.

@@ -1,5 +1,7 @@
 pub mod Counting
+pub mod Matching
 pub mod Places
 pub mod Plans
 pub mod Readings
 pub mod Searches
+pub mod Totals

@@ -11,9 +11,10 @@ use Rattle.grid.specs.Window.{count_at, window_size, share_of, share_at}
 use Rattle.sweep.specs.Sweeping.{places_needed, Swept}
 use Rattle.alteration.specs.Altering.{Altered}
 use Rattle.siting_box.specs.declared.denial.Denial.{Denial}
-use Rattle.siting_box.specs.declared.denial.Denial.TheVariants.{NoPlan, Sizes, TooFewRecords, Outside, StoredLength, Unread, NoRowLeft, TooFewPlaces, NotSwept}
+use Rattle.siting_box.specs.declared.denial.Denial.TheVariants.{NoPlan, Sizes, TooFewRecords, Outside, StoredLength, Unread, NoRowLeft, TooFewPlaces, NotSwept, RowsLeft}
 use Rattle.siting_box.specs.declared.told.Told.{Told}
-use Rattle.siting_box.specs.Contents.{Contents, lawful_sizes, plan_terrain, radius_of, is_swept, count_on, Counted}
+use Rattle.pairs.specs.Pairs.{cells_and_pairs}
+use Rattle.siting_box.specs.Contents.{Contents, lawful_sizes, plan_terrain, radius_of, is_swept, all_swept, count_on, total_on, Counted}
 use Rattle.siting_box.specs.Stored.{read_first}
 use Rattle.siting_box.specs.Fresh.{fresh}
 
@@ -52,6 +53,7 @@ Carries P (Unread cause x y) = P cause x y
 Carries P NoRowLeft = Unit {0}
 Carries P TooFewPlaces = Unit {0}
 Carries P NotSwept = Unit {0}
+Carries P RowsLeft = Unit {0}
 
 -- the cause and the cell of the first stored height that does not read
 abbrev pub FirstUnread : {X C : Type 0} → Storage X C → (width rows : ℕ) → List ℕ → C → (x y : ℕ) → Type 0
@@ -160,3 +162,18 @@ nearest_questions b x y = (1, holds_plan b) ∷ ((4, has_cell b.plan x y) ∷ []
 abbrev pub NearestAnswer : {X C : Type 0} → (X → X → Bool) → Contents X → (x y : ℕ) → Result (Option Higher) (Denial C) → Type 0
 NearestAnswer le b x y (Ok found) = Nearest le (plan_terrain b.plan b.records) (record { x = x; y = y }) found
 NearestAnswer le b x y (Err denial) = Unit {0}
+
+-- what total asks: 1 the plan, 10 that all rows are swept
+abbrev pub total_questions : {X : Type 0} → Contents X → List (ℕ × Bool)
+total_questions b = (1, holds_plan b) ∷ ((10, all_swept b.plan) ∷ [])
+
+-- what total answers: the sum of the counts on record, which in a box whose counts are the defined ones is the number of cells,
+-- plus the pairs in reach, plus the level pairs in reach
+pub record TellsTotal {X : Type 0} (le : X → X → Bool) (b : Contents X) (total : ℕ) : Type 0 where
+  pub on_record : total ≡ total_on b
+  pub defined : Counted le b → total ≡ cells_and_pairs le (plan_terrain b.plan b.records) (radius_of b.plan)
+
+-- what an accepted total answers
+abbrev pub TotalAnswer : {X C : Type 0} → (X → X → Bool) → Contents X → Result ℕ (Denial C) → Type 0
+TotalAnswer le b (Ok total) = TellsTotal le b total
+TotalAnswer le b (Err denial) = Unit {0}

@@ -1,5 +1,5 @@
 -- What a box holds: a plan or none, and its cell records.
-use Rattle.std.specs.Prelude.{◌≡◌, ℕ, ◌*◌, Bool, true, false, cond, ◌&&◌, List, [], take, Some, None, Option, nat_le, nat_lt}
+use Rattle.std.specs.Prelude.{◌≡◌, ℕ, ◌*◌, Bool, true, false, cond, ◌&&◌, List, [], map, take, Some, None, sum, Option, ◌==◌, nat_le, nat_lt}
 use Rattle.std.specs.Option.{option_map}
 use Rattle.std.specs.List.{slice_get}
 use Rattle.grid.specs.declared.Plan.{Plan}
@@ -45,6 +45,11 @@ abbrev pub is_swept : Option Plan → ℕ → Bool
 is_swept None y = false
 is_swept (Some p) y = nat_lt y p.swept
 
+-- whether all rows are swept
+abbrev pub all_swept : Option Plan → Bool
+all_swept None = false
+all_swept (Some p) = p.swept == p.rows
+
 -- the count on record of a cell
 abbrev pub count_on : {X : Type 0} → Contents X → Place → Option ℕ
 count_on b q = option_map (λ c. c.count) (slice_get b.records (reading_index (plan_terrain b.plan b.records).width q))
@@ -52,3 +57,21 @@ count_on b q = option_map (λ c. c.count) (slice_get b.records (reading_index (p
 -- every count in a swept row is the defined one, and every other count of the plan is 0
 abbrev pub Counted : {X : Type 0} → (X → X → Bool) → Contents X → Type 0
 Counted le b = (q : Place) → Inside (plan_terrain b.plan b.records) q → count_on b q ≡ Some (cond (is_swept b.plan q.y) (count_at le (plan_terrain b.plan b.records) (radius_of b.plan) q) 0)
+
+-- how many cells a plan has
+abbrev pub cells_of : Option Plan → ℕ
+cells_of None = 0
+cells_of (Some p) = p.width * p.rows
+
+-- the counts on record of a plan's cells, in reading order; none without a plan
+abbrev pub counts_of : {X : Type 0} → Option Plan → List (CellRecord X) → List ℕ
+counts_of None records = []
+counts_of (Some p) records = map (λ c. c.count) (take (p.width * p.rows) records)
+
+-- those of a box
+abbrev pub counts_on : {X : Type 0} → Contents X → List ℕ
+counts_on b = counts_of b.plan b.records
+
+-- the sum of the counts on record
+abbrev pub total_on : {X : Type 0} → Contents X → ℕ
+total_on b = sum (counts_on b)

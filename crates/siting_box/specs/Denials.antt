@@ -1,7 +1,7 @@
 -- Each call asks its questions in rising order of their numbers; the first that is answered no denies the call.
 use Rattle.std.specs.Prelude.{ℕ, Bool, cond, List, [], ◌∷◌, Some, None, Ok, Err, Option, Result}
 use Rattle.siting_box.specs.declared.denial.Denial.{Denial}
-use Rattle.siting_box.specs.declared.denial.Denial.TheVariants.{NoPlan, Sizes, TooFewRecords, Outside, StoredLength, Unread, NoRowLeft, TooFewPlaces, NotSwept}
+use Rattle.siting_box.specs.declared.denial.Denial.TheVariants.{NoPlan, Sizes, TooFewRecords, Outside, StoredLength, Unread, NoRowLeft, TooFewPlaces, NotSwept, RowsLeft}
 use Rattle.heights.specs.declared.layer.Layer.{Layer}
 use Rattle.heights.specs.declared.layer.Layer.TheVariants.{Reader, Kind, Counter, Box}
 
@@ -16,6 +16,7 @@ number (Unread cause x y) = 6
 number NoRowLeft = 7
 number TooFewPlaces = 8
 number NotSwept = 9
+number RowsLeft = 10
 
 -- the layer that asked it
 abbrev pub layer : {C : Type 0} → Denial C → Layer
@@ -28,6 +29,7 @@ layer (Unread cause x y) = Kind
 layer NoRowLeft = Box
 layer TooFewPlaces = Counter
 layer NotSwept = Box
+layer RowsLeft = Box
 
 -- the number by which a call was denied, if it was
 abbrev pub denied_by : {A C : Type 0} → Result A (Denial C) → Option ℕ

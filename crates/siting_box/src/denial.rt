@@ -16,6 +16,7 @@ pub enum Denial<C> {
     NoRowLeft,
     TooFewPlaces,
     NotSwept,
+    RowsLeft,
 }
 
 impl<C: Copy> Denial<C> {
@@ -33,6 +34,7 @@ impl<C: Copy> Denial<C> {
             Denial::NoRowLeft => 7,
             Denial::TooFewPlaces => 8,
             Denial::NotSwept => 9,
+            Denial::RowsLeft => 10,
         }
     }
 

@@ -1,16 +1,16 @@
 //! The parts of a box, and its calls on them.
-ghost use Rattle.std.specs.Prelude.{◌≡◌, ℕ, ◌≤◌, true, length, MatchResult};
+ghost use Rattle.std.specs.Prelude.{◌≡◌, ℕ, ◌≤◌, true, length, Decides, MatchResult};
 ghost use Rattle.heights.specs.Meaning.{storage};
 ghost use Rattle.siting_box.specs.InParts.{parts_contents};
 ghost use Rattle.siting_box.specs.Denials.{denied_by, first_no};
-ghost use Rattle.siting_box.specs.Contents.{well_fitted, lawful_sizes, radius_of};
-ghost use Rattle.siting_box.specs.Calls.{open_questions, OpenLeaves, alter_questions, AlterLeaves, nearest_questions, NearestAnswer, tell_questions, TellAnswer, share_questions, ShareAnswer, sweep_questions, SweepLeaves};
+ghost use Rattle.siting_box.specs.Contents.{well_fitted, lawful_sizes, radius_of, cells_of, counts_on};
+ghost use Rattle.siting_box.specs.Calls.{open_questions, OpenLeaves, alter_questions, AlterLeaves, nearest_questions, NearestAnswer, tell_questions, TellAnswer, share_questions, ShareAnswer, sweep_questions, SweepLeaves, total_questions, TotalAnswer};
 
 use crate::denial::Denial;
 use crate::search;
 use crate::stored::{fill, first_failure};
 use crate::told::Told;
-use crate::window::{count_at, extent, share_of};
+use crate::window::{are_counts_equal, count_at, extent, share_of, sum_counts};
 use alteration::cell::alter_cell;
 use counters::counter::Counter;
 use grid::{CellRecord, Higher, LARGEST_RADIUS, LONGEST_SIDE, Place, Plan};
@@ -223,5 +223,44 @@ impl<'a, H: HeightKind> Parts<'a, H> {
             plan.rows,
             Place { x, y },
         ))
+    }
+
+    // The sum of the counts of all cells.
+    pub(crate) fn total(&self) -> Result<u64, Denial<H::Cause>>
+        requires { well_fitted self.now.plan (length self.now.records.now) ≡ true }
+        ensures denial { denied_by result ≡ first_no (total_questions (parts_contents self.now)) }
+        ensures answer { TotalAnswer H.Height.not_higher (parts_contents self.now) result }
+    {
+        let Some(plan) = self.plan else {
+            return Err(Denial::NoPlan);
+        };
+        if plan.swept != plan.rows {
+            return Err(Denial::RowsLeft);
+        }
+        let cells = plan.width * plan.rows;
+        Ok(sum_counts(&self.records[0..cells]))
+    }
+
+    // How many cells the plan has, or 0 without a plan.
+    fn cells(&self) -> usize
+        requires { well_fitted self.now.plan (length self.now.records.now) ≡ true }
+        ensures exact { result ≡ cells_of self.now.plan }
+        ensures recorded { result ≤ length self.now.records.now }
+    {
+        match self.plan {
+            None => 0,
+            Some(plan) => plan.width * plan.rows,
+        }
+    }
+
+    // Whether the counts on record are those of another box.
+    pub(crate) fn has_counts_of<K: HeightKind>(&self, other: &Parts<'_, K>) -> bool
+        requires fitted { well_fitted self.now.plan (length self.now.records.now) ≡ true }
+        requires other_fitted { well_fitted other.now.plan (length other.now.records.now) ≡ true }
+        ensures { Decides result (counts_on (parts_contents self.now) ≡ counts_on (parts_contents other.now)) }
+    {
+        let own = self.cells();
+        let others = other.cells();
+        are_counts_equal(&self.records[0..own], &other.records[0..others])
     }
 }

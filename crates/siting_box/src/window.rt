@@ -1,5 +1,5 @@
 //! The cells of a window, and the counts on record.
-ghost use Rattle.std.specs.Prelude.{◌≡◌, ℕ, ◌+◌, ◌-◌, ◌<◌, ◌≤◌, min, length, slice_index_or};
+ghost use Rattle.std.specs.Prelude.{◌≡◌, ℕ, ◌+◌, ◌-◌, ◌<◌, ◌≤◌, min, map, length, Decides, sum as total, slice_index_or};
 ghost use Rattle.grid.specs.Window.{share_of};
 
 use grid::CellRecord;
@@ -29,4 +29,34 @@ pub(crate) fn share_of(count: u32, radius: usize) -> u64
 {
     let side = 2 * radius as u64 + 1;
     1000 * u64::from(count) / (side * side)
+}
+
+// The sum of the counts of records.
+pub(crate) fn sum_counts<H: Copy>(records: &[CellRecord<H>]) -> u64
+    requires { length records.now ≤ 1048576 }
+    ensures { result ≡ total (map (λ c. c.count) records.now) }
+{
+    let mut sum: u64 = 0;
+    for record in records {
+        sum += u64::from(record.count);
+    }
+    sum
+}
+
+// Whether records have the same counts, one by one.
+pub(crate) fn are_counts_equal<H: Copy, K: Copy>(
+    left: &[CellRecord<H>],
+    right: &[CellRecord<K>],
+) -> bool
+    ensures { Decides result (map (λ c. c.count) left.now ≡ map (λ c. c.count) right.now) }
+{
+    if left.len() != right.len() {
+        return false;
+    }
+    for i in 0..left.len() {
+        if left[i].count != right[i].count {
+            return false;
+        }
+    }
+    true
 }

@@ -1,10 +1,10 @@
 //! The calls of a siting box.
-ghost use Rattle.std.specs.Prelude.{◌≡◌, ℕ, None, MatchResult};
+ghost use Rattle.std.specs.Prelude.{◌≡◌, ℕ, None, Decides, MatchResult};
 ghost use Rattle.heights.specs.Meaning.{storage};
 ghost use Rattle.siting_box.specs.Boxes.{box_contents};
-ghost use Rattle.siting_box.specs.Contents.{contents, Counted};
+ghost use Rattle.siting_box.specs.Contents.{contents, counts_on, Counted};
 ghost use Rattle.siting_box.specs.Denials.{denied_by, first_no};
-ghost use Rattle.siting_box.specs.Calls.{open_questions, OpenLeaves, alter_questions, AlterLeaves, nearest_questions, NearestAnswer, tell_questions, TellAnswer, share_questions, ShareAnswer, sweep_questions, SweepLeaves};
+ghost use Rattle.siting_box.specs.Calls.{open_questions, OpenLeaves, alter_questions, AlterLeaves, nearest_questions, NearestAnswer, tell_questions, TellAnswer, share_questions, ShareAnswer, sweep_questions, SweepLeaves, total_questions, TotalAnswer};
 
 use super::SitingBox;
 use crate::denial::Denial;
@@ -88,5 +88,20 @@ impl<'a, H: HeightKind> SitingBox<'a, H> {
         ensures answer { NearestAnswer H.Height.not_higher (box_contents self.now) x y result }
     {
         self.parts.nearest(x, y)
+    }
+
+    // The sum of the counts of all cells, once all rows are swept.
+    pub fn total(&self) -> Result<u64, Denial<H::Cause>>
+        ensures denial { denied_by result ≡ first_no (total_questions (box_contents self.now)) }
+        ensures answer { TotalAnswer H.Height.not_higher (box_contents self.now) result }
+    {
+        self.parts.total()
+    }
+
+    // Whether the counts on record are those of another box, maybe of another kind.
+    pub fn has_counts_of<K: HeightKind>(&self, other: &SitingBox<'_, K>) -> bool
+        ensures { Decides result (counts_on (box_contents self.now) ≡ counts_on (box_contents other.now)) }
+    {
+        self.parts.has_counts_of(&other.parts)
     }
 }

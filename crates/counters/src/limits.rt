@@ -2,7 +2,7 @@
 ghost use Rattle.std.specs.Prelude.{◌≡◌};
 ghost use Rattle.counters.specs.Calls.{places_of, mileage_after};
 
-// How many entries hold no height, the end of the list among them.
+// How many entries a counter keeps for its own use, so that they hold no height.
 const KEPT: usize = 3;
 // The most places that a counter has.
 const MOST_PLACES: usize = 1_048_576;
@@ -10,14 +10,14 @@ const MOST_PLACES: usize = 1_048_576;
 const MOST_MILEAGE: u64 = 4_611_686_018_427_387_904;
 
 // The places of a memory of so many entries.
-pub(crate) fn places_of(entries: usize) -> usize
+pub fn places_of(entries: usize) -> usize
     ensures { result ≡ places_of entries }
 {
     entries.saturating_sub(KEPT).min(MOST_PLACES)
 }
 
 // The mileage after more steps.
-pub(crate) fn mileage_after(mileage: u64, steps: u64) -> u64
+pub fn mileage_after(mileage: u64, steps: u64) -> u64
     ensures { result ≡ mileage_after mileage steps }
 {
     mileage.saturating_add(steps).min(MOST_MILEAGE)

@@ -1,0 +1,5 @@
+pub mod Significands
+pub mod Orders
+pub mod Buffers
+pub mod Matches
+pub mod Lists

@@ -1,0 +1,3 @@
+pub mod Metres
+pub mod Converting
+pub mod Calls

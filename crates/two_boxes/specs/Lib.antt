@@ -1,0 +1,4 @@
+pub mod Matching
+pub mod Running
+pub mod Agreeing
+pub mod Comparing

@@ -1,0 +1,235 @@
+//! Lists that match.
+use crate::bench::{float_twice, whole_and_float};
+use finger_list::list::FingerList;
+use grid::Place;
+use heights::float::FloatBits;
+use runs::Call;
+use shift_array::array::ShiftArray;
+use std::test::Fail;
+use two_boxes::{Answer, Comparison};
+
+// A list with all seven calls, some of them denied.
+fn script<'a>(plan: &'a [u8], altered: &'a [u8], wrong: &'a [u8]) -> [Call<'a>; 20] {
+    [
+        Call::Tell { x: 0, y: 0 },
+        Call::Open {
+            width: 3,
+            rows: 2,
+            radius: 1,
+            bytes: wrong,
+        },
+        Call::Open {
+            width: 3,
+            rows: 2,
+            radius: 1,
+            bytes: plan,
+        },
+        Call::Total,
+        Call::Tell { x: 0, y: 0 },
+        Call::Sweep,
+        Call::Alter {
+            x: 3,
+            y: 0,
+            bytes: altered,
+        },
+        Call::Sweep,
+        Call::Total,
+        Call::Tell { x: 1, y: 0 },
+        Call::Share { x: 1, y: 0 },
+        Call::Nearest { x: 1, y: 0 },
+        Call::Nearest { x: 2, y: 1 },
+        Call::Alter {
+            x: 0,
+            y: 1,
+            bytes: altered,
+        },
+        Call::Total,
+        Call::Tell { x: 0, y: 0 },
+        Call::Sweep,
+        Call::Open {
+            width: 3,
+            rows: 2,
+            radius: 256,
+            bytes: plan,
+        },
+        Call::Share { x: 2, y: 2 },
+        Call::Total,
+    ]
+}
+
+// The worked heights 5 7 7 and 3 5 9, the height 9, in kind W and in kind F: the same answers, and equal steps of finger lists.
+#[test]
+fn finger_lists_agree_with_equal_steps(rt: HostRuntime) -> Result<(), Fail> {
+    let whole = script(
+        &[0, 5, 0, 7, 0, 7, 0, 3, 0, 5, 0, 9],
+        &[0, 9],
+        &[0, 5, 0, 7, 0, 7, 0, 3, 0, 5],
+    );
+    let float = script(
+        &[
+            0x40, 0xA0, 0, 0, 0x40, 0xE0, 0, 0, 0x40, 0xE0, 0, 0, 0x40, 0x40, 0, 0, 0x40, 0xA0, 0,
+            0, 0x41, 0x10, 0, 0,
+        ],
+        &[0x41, 0x10, 0, 0],
+        &[0x40, 0xA0, 0, 0],
+    );
+    let mut entries = [finger_list::entry::Entry {
+        height: 0i16,
+        number: 0,
+        next: 0,
+        prev: 0,
+    }; 9];
+    let mut others = [finger_list::entry::Entry {
+        height: FloatBits { bits: 0 },
+        number: 0,
+        next: 0,
+        prev: 0,
+    }; 9];
+    let ended = whole_and_float(
+        rt.alloc(),
+        FingerList::over(&mut entries),
+        FingerList::over(&mut others),
+        &whole,
+        &float,
+    )?;
+    assert!(rt; ended.comparison == Comparison::Agree);
+    assert!(rt; ended.left[5] == Answer::Swept { steps: 4 });
+    assert!(rt; ended.right[5] == Answer::Swept { steps: 4 });
+    assert!(rt; ended.left[7] == Answer::Swept { steps: 6 });
+    assert!(rt; ended.right[7] == Answer::Swept { steps: 6 });
+    assert!(rt; ended.right[8] == Answer::Total { sum: 19 });
+    assert!(rt; ended.right[14] == Answer::Total { sum: 19 });
+    Ok(())
+}
+
+// A shift array in one box and a finger list in the other: the same answers less the steps.
+#[test]
+fn other_counters_agree(rt: HostRuntime) -> Result<(), Fail> {
+    let whole = script(
+        &[0xFF, 0xFF, 0, 0, 0, 1, 0x80, 0, 0x7F, 0xFF, 0, 0],
+        &[0xFF, 0xFE],
+        &[],
+    );
+    let float = script(
+        &[
+            0xBF, 0x80, 0, 0, 0, 0, 0, 0, 0x3F, 0x80, 0, 0, 0xC7, 0, 0, 0, 0x46, 0xFF, 0xFE, 0,
+            0x80, 0, 0, 0,
+        ],
+        &[0xC0, 0, 0, 0],
+        &[],
+    );
+    let mut entries = [shift_array::entry::Entry {
+        height: 0i16,
+        number: 0,
+    }; 9];
+    let mut others = [finger_list::entry::Entry {
+        height: FloatBits { bits: 0 },
+        number: 0,
+        next: 0,
+        prev: 0,
+    }; 9];
+    let ended = whole_and_float(
+        rt.alloc(),
+        ShiftArray::over(&mut entries),
+        FingerList::over(&mut others),
+        &whole,
+        &float,
+    )?;
+    assert!(rt; ended.comparison == Comparison::Agree);
+    assert!(rt; ended.left[8] == Answer::Total { sum: 18 });
+    assert!(rt; ended.right[8] == Answer::Total { sum: 18 });
+    assert!(rt;
+        ended.left[0]
+            == Answer::Denied {
+                number: 1,
+                cell: None,
+            }
+    );
+    assert!(rt;
+        ended.left[1]
+            == Answer::Denied {
+                number: 5,
+                cell: None,
+            }
+    );
+    assert!(rt;
+        ended.left[3]
+            == Answer::Denied {
+                number: 10,
+                cell: None,
+            }
+    );
+    assert!(rt;
+        ended.left[4]
+            == Answer::Denied {
+                number: 9,
+                cell: None,
+            }
+    );
+    assert!(rt;
+        ended.left[6]
+            == Answer::Denied {
+                number: 4,
+                cell: None,
+            }
+    );
+    assert!(rt;
+        ended.left[16]
+            == Answer::Denied {
+                number: 7,
+                cell: None,
+            }
+    );
+    assert!(rt;
+        ended.left[17]
+            == Answer::Denied {
+                number: 2,
+                cell: None,
+            }
+    );
+    Ok(())
+}
+
+// Stored heights that do not read: both boxes deny by question 6 and name the first such cell.
+#[test]
+fn unread_heights_named(rt: HostRuntime) -> Result<(), Fail> {
+    let calls = [
+        Call::Open {
+            width: 2,
+            rows: 2,
+            radius: 1,
+            bytes: &[0, 0, 0, 0, 0, 0, 0, 0, 0x7F, 0x80, 0, 0, 0xFF, 0xC0, 0, 0],
+        },
+        Call::Open {
+            width: 1,
+            rows: 1,
+            radius: 255,
+            bytes: &[0x80, 0, 0, 0],
+        },
+        Call::Sweep,
+        Call::Alter {
+            x: 0,
+            y: 0,
+            bytes: &[0x7F, 0xC0, 0, 0],
+        },
+        Call::Total,
+    ];
+    let ended = float_twice(rt.alloc(), &calls, &calls)?;
+    assert!(rt; ended.comparison == Comparison::Agree);
+    assert!(rt;
+        ended.left[0]
+            == Answer::Denied {
+                number: 6,
+                cell: Some(Place { x: 0, y: 1 }),
+            }
+    );
+    assert!(rt;
+        ended.right[3]
+            == Answer::Denied {
+                number: 6,
+                cell: Some(Place { x: 0, y: 0 }),
+            }
+    );
+    assert!(rt; ended.right[4] == Answer::Total { sum: 1 });
+    Ok(())
+}
