@@ -32,15 +32,11 @@ level_pairs le t r =
 abbrev pub total_count : {X : Type 0} → (X → X → Bool) → Terrain X → ℕ → ℕ
 total_count le t r = sum_by (count_at le t r) (cells t.width t.rows)
 
--- the cells of a grid, plus its pairs in reach, plus its level pairs in reach
-abbrev pub cells_and_pairs : {X : Type 0} → (X → X → Bool) → Terrain X → ℕ → ℕ
-cells_and_pairs le t r = t.width * t.rows + pairs_in_reach t r + level_pairs le t r
-
 -- the law of the counts, which every Preorder keeps: on a grid with all its heights, the counts together count each cell once,
 -- for itself, each pair in reach once, for the one of its cells that is not higher, and each level pair in reach once more,
 -- for the other
 abbrev pub CountsAddUp : {X : Type 0} → (X → X → Bool) → Type 0
-CountsAddUp {X} le = (t : Terrain X) (r : ℕ) → length t.heights ≡ t.width * t.rows → total_count le t r ≡ cells_and_pairs le t r
+CountsAddUp {X} le = (t : Terrain X) (r : ℕ) → length t.heights ≡ t.width * t.rows → total_count le t r ≡ t.width * t.rows + pairs_in_reach t r + level_pairs le t r
 
 -- no count is larger than the grid, and all together are at most its square
 pub record CountsBounded {X : Type 0} (le : X → X → Bool) : Type 0 where

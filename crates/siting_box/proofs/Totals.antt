@@ -12,7 +12,7 @@ use Rattle.grid.specs.declared.Place.{Place}
 use Rattle.grid.specs.declared.CellRecord.{CellRecord}
 use Rattle.grid.specs.Terrain.{reading_index}
 use Rattle.grid.specs.Window.{count_at}
-use Rattle.pairs.specs.Pairs.{cells_and_pairs}
+use Rattle.pairs.specs.Totals.{cells_and_pairs}
 use Rattle.pairs.proofs.Grids.{counts_add_up}
 use Rattle.pairs.proofs.Listed.{sum_cells}
 use Rattle.siting_box.specs.Contents.{Contents, contents, fits_in, well_fitted, plan_terrain, radius_of, all_swept, Counted, counts_of, total_on}

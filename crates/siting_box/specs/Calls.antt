@@ -13,7 +13,7 @@ use Rattle.alteration.specs.Altering.{Altered}
 use Rattle.siting_box.specs.declared.denial.Denial.{Denial}
 use Rattle.siting_box.specs.declared.denial.Denial.TheVariants.{NoPlan, Sizes, TooFewRecords, Outside, StoredLength, Unread, NoRowLeft, TooFewPlaces, NotSwept, RowsLeft}
 use Rattle.siting_box.specs.declared.told.Told.{Told}
-use Rattle.pairs.specs.Pairs.{cells_and_pairs}
+use Rattle.pairs.specs.Totals.{cells_and_pairs}
 use Rattle.siting_box.specs.Contents.{Contents, lawful_sizes, plan_terrain, radius_of, is_swept, all_swept, count_on, total_on, Counted}
 use Rattle.siting_box.specs.Stored.{read_first}
 use Rattle.siting_box.specs.Fresh.{fresh}

@@ -5,7 +5,7 @@ use Rattle.heights.specs.Meaning.{Storage}
 use Rattle.counters.specs.Calls.{View}
 use Rattle.counters.specs.Fingers.{by_fingers}
 use Rattle.grid.specs.declared.Plan.{Plan}
-use Rattle.pairs.specs.Pairs.{cells_and_pairs}
+use Rattle.pairs.specs.Totals.{cells_and_pairs}
 use Rattle.ceiling.specs.Roughness.{roughness}
 use Rattle.siting_box.specs.Contents.{Contents, plan_terrain, radius_of, all_swept, counts_on, total_on, Counted}
 use Rattle.runs.specs.declared.call.Call.{Call}
