@@ -6,6 +6,8 @@ mod alterations;
 #[cfg(test)]
 mod counter_calls;
 #[cfg(test)]
+mod denials;
+#[cfg(test)]
 mod float_sessions;
 #[cfg(test)]
 mod readings;
