@@ -1,10 +1,11 @@
 -- How the counts of a grid change where one of its heights does.
-use Rattle.std.proofs.Common.{◌≡◌, ℕ, zero, suc, ◌+◌, ◌-◌, ◌*◌, ◌/◌, ◌%◌, ◌<◌, ◌≤◌, min, Bool, true, false, cond, ◌&&◌, ltb, List, [], ◌∷◌, map, length, get_or, set, Some, None, Option, sym, refl, ap, ◌∙◌, mul-le-mul, arith}
+use Rattle.std.proofs.Common.{◌≡◌, ℕ, zero, suc, ◌+◌, ◌-◌, ◌*◌, ◌/◌, ◌%◌, ◌<◌, ◌≤◌, min, Bool, true, false, cond, ◌&&◌, ltb, List, map, take, drop, length, get_or, set, Some, None, Option, sym, refl, ap, ◌∙◌, mul-le-mul, arith}
 use Rattle.std.specs.List.{range_with_len, flat_map, slice_get}
 use Rattle.std.proofs.lemmas.Nat.{mul-add-lt, div-mul-add, mod-mul-add}
 use Rattle.std.proofs.lemmas.List.FromFn.{length-map-range_with_len}
-use Rattle.std.proofs.lemmas.List.{get_or-map}
-use Rattle.std.proofs.lemmas.Option.{slice_get-get_or}
+use Rattle.std.proofs.lemmas.List.{length-set, get_or-map, get_or-set_same, drop_more}
+use Rattle.std.proofs.lemmas.Option.{slice_get-get_or, gets}
+use Rattle.std.proofs.lemmas.Grind.{common_steps}
 use Rattle.std.proofs.lemmas.Bool.{lt-ltb, and_right}
 use Rattle.heights.specs.Tally.{tally}
 use Rattle.heights.proofs.Tallying.{tally_le_length}
@@ -27,21 +28,26 @@ same_cell w a b x y p q e = (
 
 -- the element that was replaced
 pub nth_set_same : {X : Type 0} (xs : List X) (i : ℕ) (v : X) → i < length xs → slice_get (set xs i v) i ≡ Some v
-nth_set_same [] i v lt = absurd (omega arith)
-nth_set_same (x ∷ xs) zero v lt = refl
-nth_set_same (x ∷ xs) (suc i) v lt = nth_set_same xs i v (omega arith)
+nth_set_same xs i v lt = slice_get-get_or (set xs i v) i v (omega (arith, lt, length-set xs i v)) ∙ ap Some (get_or-set_same xs i v v lt)
 
 -- the elements that were not replaced
 pub nth_set_other : {X : Type 0} (xs : List X) (i j : ℕ) (v : X) → (j ≡ i → ⊥) → slice_get (set xs i v) j ≡ slice_get xs j
-nth_set_other [] i j v ne = refl
-nth_set_other (x ∷ xs) zero zero v ne = absurd (ne refl)
-nth_set_other (x ∷ xs) zero (suc j) v ne = refl
-nth_set_other (x ∷ xs) (suc i) zero v ne = refl
-nth_set_other (x ∷ xs) (suc i) (suc j) v ne = nth_set_other xs i j v (λ e. ne (ap suc e))
+nth_set_other xs i j v ne = grind (arith, common_steps, gets)
 
 -- the test of the record at an index
 pub test_read : {X : Type 0} (le : X → X → Bool) (records : List (CellRecord X)) (h : X) (i : ℕ) (d : CellRecord X) (b : Bool) → i < length records → b ≡ le (get_or records i d).height h → not_above le records h i ≡ b
 test_read le records h i d b lt e = ap (λ k. le k h) (get_or-map (λ c. c.height) records i d h lt) ∙ sym e
+
+-- records that are not higher than a height, counted by their indices
+pub tally_part : {X : Type 0} (le : X → X → Bool) (records : List (CellRecord X)) (h : X) (a n : ℕ) → a + n ≤ length records
+    → tally (λ c. le c.height h) (take n (drop a records)) ≡ tally (not_above le records h) (range_with_len a n)
+tally_part le records h a zero fits = refl
+tally_part {X} le records h a (suc n) fits =
+    let d : CellRecord X = record { height = h; count = 0 } in
+    let test : CellRecord X → Bool = λ c. le c.height h in
+    let bit : Bool → ℕ = λ b. cond b 1 0 in
+    ap (λ cells. tally test (take (suc n) cells)) (drop_more records a d (omega arith))
+    ∙ omega (arith, ap bit (test_read le records h a d (test (get_or records a d)) (omega arith) refl), tally_part le records h (a + 1) n (omega arith))
 
 -- what a cell adds to the count of another: 1 or 0
 abbrev pub cell_count : {X : Type 0} → (X → X → Bool) → Terrain X → ℕ → Place → ℕ → ℕ → ℕ

@@ -1,25 +1,20 @@
 -- Counts mended one after another.
-use Rattle.std.proofs.Common.{◌≡◌, ℕ, ◌+◌, ◌-◌, ◌*◌, ◌<◌, ◌≤◌, max, Bool, true, false, cond, ◌⊎◌, List, length, get_or, set, sym, refl, ap, ◌∙◌, inl, inr, ⊎_elim, mul-le-mul_right, add-mul, eq-or-lt_of_le, arith}
-use Rattle.std.proofs.lemmas.List.{get_or-set_same, get_or-set_other, get_or_default}
-use Rattle.std.proofs.lemmas.Bool.{cases_eq}
+use Rattle.std.proofs.Common.{◌≡◌, ℕ, ◌+◌, ◌-◌, ◌*◌, ◌<◌, ◌≤◌, max, Bool, cond, ◌⊎◌, List, [], ◌∷◌, ◌++◌, map, take, drop, length, length-drop, get_or, set, sym, refl, ap, ◌∙◌, subst, inl, inr, ⊎_elim, mul-le-mul_right, add-mul, eq-or-lt_of_le, arith}
+use Rattle.std.proofs.lemmas.List.{get_or-set_same, get_or-set_other, get_or_default, get_or_append_left, get_or-append_right, get_or-take, get_or-drop, get_or-map, length-take-le, length-map, take-append-drop, map-append}
+use Rattle.std.proofs.lemmas.Bool.{cases_eq, cases_lt}
+use borrow.Rule.Slice.PartMut.{put_mid}
 use Rattle.grid.specs.declared.CellRecord.{CellRecord}
-use Rattle.sweep.proofs.Cells.{heights_kept, count_of}
+use Rattle.grid.specs.Terrain.{heights_of}
+use Rattle.sweep.proofs.Cells.{count_of}
 use Rattle.alteration.specs.declared.part.Part.{Part}
 use Rattle.alteration.specs.Parts.{Between, InPart}
 use Rattle.alteration.specs.Mending.{mended_count, mended, Mended}
 
 -- a count that its window's change explains is mended to what it has to be
 pub mended_right : (counts counted : Bool) (n m : ℕ) → n ≤ 1048576 → m + cond counted 1 0 ≡ n + cond counts 1 0 → mended_count counts counted n ≡ m
-mended_right true true n m few e = omega arith
-mended_right true false n m few e = omega arith
-mended_right false true n m few e = omega arith
-mended_right false false n m few e = omega arith
+mended_right counts counted n m few e = grind arith
 
 module _ {X : Type 0} {le : X → X → Bool} {old new : X} where
-  -- nothing is mended
-  pub mended_none : (P : ℕ → Type 0) (records : List (CellRecord X)) → ((i : ℕ) → P i → ⊥) → Mended le old new P records records
-  mended_none P records none = record { heights = refl; inside = λ i d p. absurd (none i p); others = λ i d out. refl }
-
   -- some counts are mended after others
   pub mended_then : (P Q R : ℕ → Type 0) {before during later : List (CellRecord X)}
       → ((i : ℕ) → P i → Q i → ⊥) → ((i : ℕ) → P i → R i) → ((i : ℕ) → Q i → R i) → ((i : ℕ) → R i → P i ⊎ Q i)
@@ -55,23 +50,55 @@ count_kept {X} records i h d lt j e =
     (λ (ne : j ≡ i → ⊥). count_of (get_or-set_other records i j k e ne))
     (cases_eq j i)
 
--- one count is mended, from the record that was read
-pub mended_one : {X : Type 0} (le : X → X → Bool) (old new : X) (records : List (CellRecord X)) (i n : ℕ) (read d : CellRecord X) → i < length records → read ≡ get_or records i read
-    → n ≡ mended_count (le new read.height) (le old read.height) read.count
-    → Mended le old new (λ j. j ≡ i) records (set records i (record { height = (get_or records i d).height; count = n }))
-mended_one {X} le old new records i n read d lt read_is is =
-    let k : CellRecord X = record { height = (get_or records i d).height; count = n } in
-    let here : read ≡ get_or records i d = read_is ∙ get_or_default records i read d lt in
-    let same : k ≡ mended le old new (get_or records i d) =
-    ap (λ m. record { height = (get_or records i d).height; count = m }) is ∙ ap (λ c. record { height = (get_or records i d).height; count = mended_count (le new c.height) (le old c.height) c.count }) here in
+-- the record at a cell's index is mended by its count
+pub mended_is : {X : Type 0} (le : X → X → Bool) (old new : X) (read there : CellRecord X) (n : ℕ) → read ≡ there → n ≡ mended_count (le new there.height) (le old there.height) there.count
+    → record { height = there.height; count = n } ≡ mended le old new read
+mended_is le old new read there n same is = ap (λ m. record { height = there.height; count = m }) is ∙ sym (ap (mended le old new) same)
+
+-- mended records have the heights that they had
+mended_heights : {X : Type 0} (le : X → X → Bool) (old new : X) (cells : List (CellRecord X)) → heights_of (map (mended le old new) cells) ≡ heights_of cells
+mended_heights le old new [] = refl
+mended_heights le old new (c ∷ cells) = ap (λ hs. c.height ∷ hs) (mended_heights le old new cells)
+
+mended_middle : {X : Type 0} (le : X → X → Bool) (old new : X) (records : List (CellRecord X)) (a n z : ℕ) → z ≡ a + n → z ≤ length records
+    → Mended le old new (Between a z) records (take a records ++ (map (mended le old new) (take n (drop a records)) ++ drop n (drop a records)))
+mended_middle {X} le old new records a n z end fits =
+    let m : CellRecord X → CellRecord X = mended le old new in
+    let f : CellRecord X → X = λ c. c.height in
+    let front = take a records in
+    let part = take n (drop a records) in
+    let back = drop n (drop a records) in
+    let long : length front ≡ a = length-take-le a records (omega arith) in
+    let rest : length (drop a records) ≡ length records - a = length-drop a records in
+    let wide : length (map m part) ≡ n = length-map part m ∙ length-take-le n (drop a records) (omega arith) in
+    let whole : front ++ (part ++ back) ≡ records = ap (λ l. front ++ l) (take-append-drop n (drop a records)) ∙ take-append-drop a records in
     record {
-      heights = heights_kept records i n d lt;
-      inside = λ j e q.
-          ap (λ m. get_or (set records i k) m e) q
-          ∙ (get_or-set_same records i k e lt
-          ∙ (same ∙ ap (mended le old new) (get_or_default records i d e lt ∙ ap (λ m. get_or records m e) (sym q))));
-      others = λ j e ne. get_or-set_other records i j k e ne;
+      heights = map-append f front (map m part ++ back)
+          ∙ (ap (λ l. map f front ++ l) (map-append f (map m part) back ∙ (ap (λ l. l ++ map f back) (mended_heights le old new part) ∙ sym (map-append f part back)))
+          ∙ (sym (map-append f front (part ++ back)) ∙ ap (map f) whole));
+      inside = λ i d p.
+          let at : a + (i - a) ≡ i = omega (arith, p.0) in
+          get_or-append_right front (map m part ++ back) a i d long p.0
+          ∙ (get_or_append_left (map m part) back d (i - a) (omega (arith, p.0, p.1))
+          ∙ (get_or-map m part (i - a) d d (omega (arith, p.0, p.1, length-map part m))
+          ∙ ap m (get_or-take n (drop a records) (i - a) d (omega (arith, p.0, p.1)) ∙ (get_or-drop a records (i - a) d ∙ ap (λ k. get_or records k d) at))));
+      others = λ i d out.
+          ⊎_elim
+          (λ (low : i < a). get_or_append_left front (map m part ++ back) d i (omega arith) ∙ get_or-take a records i d low)
+          (λ (high : a ≤ i).
+          let beyond : z ≤ i = ⊎_elim (λ (l : i < z). absurd (out (high, l))) (λ (h : z ≤ i). h) (cases_lt i z) in
+          let at : a + (n + (i - a - n)) ≡ i = omega arith in
+          get_or-append_right front (map m part ++ back) a i d long high
+          ∙ (get_or-append_right (map m part) back n (i - a) d wide (omega arith)
+          ∙ (get_or-drop n (drop a records) (i - a - n) d ∙ (get_or-drop a records (n + (i - a - n)) d ∙ ap (λ k. get_or records k d) at))))
+          (cases_lt i a);
     }
+
+-- the records from a to just before z are mended
+pub mended_part : {X : Type 0} (le : X → X → Bool) (old new : X) (records cells : List (CellRecord X)) (a z : ℕ) → a ≤ z → z ≤ length records → cells ≡ map (mended le old new) (take (z - a) (drop a records))
+    → Mended le old new (Between a z) records (put_mid a (z - a) records cells)
+mended_part le old new records cells a z low fits e =
+    subst (λ ks. Mended le old new (Between a z) records (take a records ++ (ks ++ drop (z - a) (drop a records)))) (sym e) (mended_middle le old new records a (z - a) z (omega arith) fits)
 
 -- an index is that of a cell of a part in a row before another
 abbrev pub InRows : Part → ℕ → ℕ → Type 0
@@ -84,17 +111,6 @@ row_below y m w lt =
     omega (arith, mul-le-mul_right w up, add-mul y 1 w)
 
 module _ {X : Type 0} {le : X → X → Bool} {old new : X} where
-  -- one count more is mended
-  pub cell_more : (start index : ℕ) {before during later : List (CellRecord X)} → start ≤ index
-      → Mended le old new (Between start index) before during → Mended le old new (λ i. i ≡ index) during later → Mended le old new (Between start (index + 1)) before later
-  cell_more start index low m n =
-      mended_then (Between start index) (λ i. i ≡ index) (Between start (index + 1))
-      (λ i p q. omega (arith, p.1, q))
-      (λ i p. (p.0, omega (arith, p.1)))
-      (λ i q. (omega (arith, q), omega (arith, q)))
-      (λ i r. let most : i ≤ index = omega (arith, r.1) in ⊎_elim (λ (e : i ≡ index). inr e) (λ (l : i < index). inl (r.0, l)) (eq-or-lt_of_le most))
-      m n
-
   -- the counts of one row more are mended
   pub row_more : (p : Part) (y : ℕ) {before during later : List (CellRecord X)} → p.right ≤ p.width → p.top ≤ y
       → Mended le old new (InRows p y) before during → Mended le old new (Between (y * p.width + p.left) (y * p.width + p.right)) during later → Mended le old new (InRows p (y + 1)) before later

@@ -1,10 +1,8 @@
 -- Sums of which one number changes, and tallies as sums.
-use Rattle.std.proofs.Common.{◌≡◌, ℕ, zero, suc, ◌+◌, ◌-◌, ◌<◌, ◌≤◌, Bool, cond, List, [], ◌∷◌, map, refl, ap, ◌∙◌, ⊎_elim, eq-or-lt_of_le, arith}
-use Rattle.std.specs.List.{range_with_len, flat_map}
-use Rattle.std.proofs.lemmas.List.FromFn.{length-range_with_len}
+use Rattle.std.proofs.Common.{◌≡◌, ℕ, zero, suc, ◌+◌, ◌<◌, ◌≤◌, Bool, cond, List, [], ◌∷◌, map, length, refl, ap, ◌∙◌, ⊎_elim, eq-or-lt_of_le, arith}
+use Rattle.std.specs.List.{range_with_len, flat_map, filter}
 use Rattle.heights.specs.Tally.{tally}
-use Rattle.heights.proofs.Tallying.{tally_append, tally_le_length}
-use Rattle.grid.proofs.Sizes.{counting_more}
+use Rattle.heights.proofs.Tallying.{tally_append}
 use Rattle.sweep.proofs.Lists.{joined_next}
 use Rattle.sweep.proofs.Totals.{total, total_ext}
 
@@ -36,20 +34,11 @@ pub tally_map_range : {X : Type 0} (p : X → Bool) (f : ℕ → X) (a n : ℕ) 
 tally_map_range p f a zero = refl
 tally_map_range p f a (suc n) = ap (λ k. cond (p (f a)) 1 0 + k) (tally_map_range p f (a + 1) n)
 
--- the tally of a range with its end too
-pub tally_next : (p : ℕ → Bool) (a x : ℕ) → a ≤ x → tally p (range_with_len a (x + 1 - a)) ≡ tally p (range_with_len a (x - a)) + cond (p x) 1 0
-tally_next p a x low =
-    let e : x + 1 - a ≡ (x - a) + 1 = omega arith in
-    let f : a + (x - a) ≡ x = omega arith in
-    let bit : ℕ → ℕ = λ k. cond (p k) 1 0 in
-    ap (λ n. tally p (range_with_len a n)) e
-    ∙ (ap (tally p) (counting_more a (x - a))
-    ∙ (tally_append p (range_with_len a (x - a)) ((a + (x - a)) ∷ []) ∙ omega (arith, ap bit f)))
+-- what passes a test is as long as the tally
+pub length_filter : {X : Type 0} (p : X → Bool) (xs : List X) → length (filter p xs) ≡ tally p xs
+length_filter p [] = refl
+length_filter p (x ∷ xs) = grind (arith, length_filter p xs)
 
--- a range has no more numbers that pass a test than it has numbers
-pub tally_range_le : (p : ℕ → Bool) (a n : ℕ) → tally p (range_with_len a n) ≤ n
-tally_range_le p a n = omega (arith, tally_le_length p (range_with_len a n), length-range_with_len a n)
-
--- the tally of lists joined over a range with its end too
-pub joined_tally_next : (p : ℕ → Bool) (f : ℕ → List ℕ) (a y : ℕ) → a ≤ y → tally p (flat_map f (range_with_len a (y + 1 - a))) ≡ tally p (flat_map f (range_with_len a (y - a))) + tally p (f y)
-joined_tally_next p f a y low = ap (tally p) (joined_next f a y low) ∙ tally_append p (flat_map f (range_with_len a (y - a))) (f y)
+-- the tally of the lists joined over n numbers, with that at the next
+pub joined_tally_next : (p : ℕ → Bool) (f : ℕ → List ℕ) (a n m y : ℕ) → y ≡ a + n → m ≡ n + 1 → tally p (flat_map f (range_with_len a m)) ≡ tally p (flat_map f (range_with_len a n)) + tally p (f y)
+joined_tally_next p f a n m y at more = ap (tally p) (joined_next f a n m y at more) ∙ tally_append p (flat_map f (range_with_len a n)) (f y)

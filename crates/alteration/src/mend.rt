@@ -1,7 +1,7 @@
 //! The mending of counts where a cell of one height becomes one of another.
-ghost use Rattle.std.specs.Prelude.{◌≡◌, ◌*◌, ◌<◌, ◌≤◌, length};
-ghost use Rattle.alteration.specs.Parts.{Between, InPart, Lawful};
-ghost use Rattle.alteration.specs.Mending.{mended_count, Mended};
+ghost use Rattle.std.specs.Prelude.{◌≡◌, ◌*◌, ◌≤◌, map, length};
+ghost use Rattle.alteration.specs.Parts.{InPart, Lawful};
+ghost use Rattle.alteration.specs.Mending.{mended_count, mended, Mended};
 
 use crate::part::Part;
 use grid::CellRecord;
@@ -23,26 +23,17 @@ fn mended_count<H: Height>(count: u32, own: H, old: H, new: H) -> u32
     }
 }
 
-// Mends the count of the cell at an index.
-fn mend_cell<H: Height>(records: &mut [CellRecord<H>], index: usize, old: H, new: H)
-    requires { index < length records.old }
-    ensures { Mended H.Height.not_higher old new (λ i. i ≡ index) records.old records.new }
+// Mends the counts of the cells of a row.
+fn mend_row<H: Height>(cells: &mut [CellRecord<H>], old: H, new: H)
+    ensures { cells.new ≡ map (mended H.Height.not_higher old new) cells.old }
 {
-    let cell = records[index];
-    records[index].count = mended_count(cell.count, cell.height, old, new);
-}
-
-// Mends the counts of the cells from one index to just before another.
-fn mend_row<H: Height>(records: &mut [CellRecord<H>], start: usize, end: usize, old: H, new: H)
-    requires { (start ≤ end) × (end ≤ length records.old) }
-    ensures { Mended H.Height.not_higher old new (Between start end) records.old records.new }
-{
-    for index in start..end {
-        mend_cell(records, index, old, new);
+    for cell in cells {
+        cell.count = mended_count(cell.count, cell.height, old, new);
     }
 }
 
 // Mends the counts of the cells of a part.
+// The rows are found by their number, since the invariant of a loop over `chunks_exact_mut` cannot say what is written.
 pub(crate) fn mend_rows<H: Height>(records: &mut [CellRecord<H>], part: Part, old: H, new: H)
     requires lawful { Lawful part }
     requires fitted { part.bottom * part.width ≤ length records.old }
@@ -50,6 +41,6 @@ pub(crate) fn mend_rows<H: Height>(records: &mut [CellRecord<H>], part: Part, ol
 {
     for y in part.top..part.bottom {
         let row = y * part.width;
-        mend_row(records, row + part.left, row + part.right, old, new);
+        mend_row(&mut records[row + part.left..row + part.right], old, new);
     }
 }

@@ -2,9 +2,10 @@
 ghost use Rattle.std.specs.Prelude.{◌≡◌, ◌≤◌};
 ghost use Rattle.alteration.specs.Parts.{part_around};
 
-use grid::{Place, Plan};
+use grid::{Place, Plan, near};
 
 // The cells in the columns left..right and the rows top..bottom of a grid of so many columns.
+// Its bounds are no ghost fields: `part_around` and `InPart` speak of parts as plain numbers, and two functions ask for them.
 #[derive(Clone, Copy)]
 pub(crate) struct Part {
     pub(crate) width: usize,
@@ -21,12 +22,14 @@ impl Part {
         requires place { (at.x ≤ 1024) × (at.y ≤ 1024) }
         ensures { result ≡ part_around plan at }
     {
+        let columns = near(at.x, plan.radius, plan.width);
+        let rows = near(at.y, plan.radius, plan.rows);
         Part {
             width: plan.width,
-            left: at.x.saturating_sub(plan.radius),
-            right: plan.width.min(at.x + plan.radius + 1),
-            top: at.y.saturating_sub(plan.radius),
-            bottom: plan.rows.min(at.y + plan.radius + 1),
+            left: columns.start,
+            right: columns.end,
+            top: rows.start,
+            bottom: rows.end,
         }
     }
 }

@@ -1,9 +1,9 @@
 -- The same row of two grids whose cells compare alike takes finger lists equal steps.
-use Rattle.std.proofs.Common.{◌≡◌, ℕ, ◌+◌, ◌*◌, ◌/◌, ◌%◌, ◌<◌, ◌≤◌, Bool, cond, length, get_or, Some, None, Option, sym, refl, ap, ◌∙◌, ⊎_elim, mul-le-mul_right, mul_comm, arith}
+use Rattle.std.proofs.Common.{◌≡◌, ℕ, ◌+◌, ◌*◌, ◌/◌, ◌%◌, ◌<◌, ◌≤◌, Bool, cond, length, get_or, Some, None, sym, refl, ap, ◌∙◌, ⊎_elim, mul-le-mul_right, mul_comm, arith}
 use Rattle.std.specs.List.{slice_get}
 use Rattle.std.proofs.lemmas.Nat.{div-add-mod', div_below, mod_below}
 use Rattle.std.proofs.lemmas.List.{get_or_past}
-use Rattle.std.proofs.lemmas.Option.{slice_get_past}
+use Rattle.std.proofs.lemmas.Option.{none-some, slice_get_past}
 use Rattle.std.proofs.lemmas.Bool.{cases_lt, le-ltb, lt-ltb}
 use Rattle.heights.specs.Order.{Preorder}
 use Rattle.counters.specs.Calls.{mileage_after}
@@ -18,15 +18,12 @@ use Rattle.ceiling.proofs.Ceiling.{row_mileage}
 use Rattle.ceiling.proofs.Images.{equal_row_steps}
 use Rattle.ceiling.proofs.Limit.{row_steps}
 
-none_some : {X : Type 0} (o : Option X) (h : X) → o ≡ None → o ≡ Some h → ⊥
-none_some o h e f = let z : ◌≡◌ {A = ℕ} 0 1 = cc in omega arith
-
 -- a grid in which there is a height at the start of row y has columns
 found_wide : {X : Type 0} (t : Terrain X) (y : ℕ) (h : X) → height_at t (record { x = 0; y = y }) ≡ Some h → 0 < t.width
 found_wide t y h e =
     ⊎_elim
     (λ (p : 0 < t.width). p)
-    (λ (p : t.width ≤ 0). absurd (none_some (height_at t (record { x = 0; y = y })) h (ap (λ b. cond b (slice_get t.heights (y * t.width + 0)) None) (le-ltb 0 t.width p)) e))
+    (λ (p : t.width ≤ 0). absurd (none-some h (sym (ap (λ b. cond b (slice_get t.heights (y * t.width + 0)) None) (le-ltb 0 t.width p)) ∙ e)))
     (cases_lt 0 t.width)
 
 -- and y is one of its rows
@@ -36,7 +33,7 @@ found_row t all y h e =
     (λ (p : y < t.rows). p)
     (λ (p : t.rows ≤ y).
     let far : length t.heights ≤ y * t.width + 0 = omega (arith, all, mul_comm t.width t.rows, mul-le-mul_right {m = t.rows} {n = y} t.width p) in
-    absurd (none_some (height_at t (record { x = 0; y = y })) h (ap (λ b. cond b (slice_get t.heights (y * t.width + 0)) None) (lt-ltb 0 t.width (found_wide t y h e)) ∙ slice_get_past t.heights (y * t.width + 0) far) e))
+    absurd (none-some h (sym (ap (λ b. cond b (slice_get t.heights (y * t.width + 0)) None) (lt-ltb 0 t.width (found_wide t y h e)) ∙ slice_get_past t.heights (y * t.width + 0) far) ∙ e)))
     (cases_lt y t.rows)
 
 -- the cell with the index of column x and row y, in a grid so wide

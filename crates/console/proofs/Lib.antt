@@ -1,3 +1,2 @@
-pub mod Adding
-pub mod Carrying
 pub mod Digits
+pub mod Written

@@ -25,7 +25,7 @@ denial_answer Sizes = answer.Denied 2
 denial_answer TooFewRecords = answer.Denied 3
 denial_answer Outside = answer.Denied 4
 denial_answer StoredLength = answer.Denied 5
-denial_answer (Unread cause x y) = answer.DeniedAt 6 x y
+denial_answer (Unread cause at) = answer.DeniedAt 6 at.x at.y
 denial_answer NoRowLeft = answer.Denied 7
 denial_answer TooFewPlaces = answer.Denied 8
 denial_answer NotSwept = answer.Denied 9
@@ -128,6 +128,13 @@ Decodable command.Sweep = Unit {0}
 Decodable (command.Tell x y) = Unit {0}
 Decodable (command.Share x y) = Unit {0}
 Decodable (command.Nearest x y) = Unit {0}
+
+-- the line writes this command, which can be decoded; none where it writes none, as a line that is too long does
+abbrev pub WrittenBy : Option (List ℕ) → Option Command → Type 0
+WrittenBy None (Some command) = ⊥
+WrittenBy None None = Unit {0}
+WrittenBy (Some line) (Some command) = Spells command line × Decodable command
+WrittenBy (Some line) None = (command : Command) → Spells command line → ⊥
 
 -- the line chooses this kind and this counter; none where it chooses none, as a line that is too long does
 abbrev pub ChosenBy : Option (List ℕ) → Option (KindLetter × CounterLetter) → Type 0

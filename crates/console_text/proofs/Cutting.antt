@@ -1,7 +1,9 @@
 -- A text is cut at its first space in one way only.
 use Rattle.std.proofs.Common.{◌≡◌, ℕ, zero, suc, ◌-◌, ◌<◌, Bool, true, false, cond, eqb, List, [], ◌∷◌, ◌++◌, length, get_or, take, drop, sym, refl, ap, ◌∙◌, inl, inr, ⊎_elim, arith}
 use Rattle.std.proofs.lemmas.Bool.Decides.{nat_tests}
-use Rattle.std.proofs.lemmas.List.{take_all}
+use Rattle.std.proofs.lemmas.List.{take_all, drop_all}
+use Rattle.std.specs.Prelude.{Option, Some, None, MatchOption, unwrap_or, HoldsAt}
+use Rattle.std.specs.List.{AllWithin}
 use Rattle.console_text.specs.Fields.{word, after_word, Ends}
 
 -- no byte of the list is a space
@@ -67,6 +69,15 @@ pub first_and_rest : (xs : List ℕ) (x : ℕ) → 0 < x → get_or xs 0 0 ≡ x
 first_and_rest [] x l e = absurd (omega arith)
 first_and_rest (y ∷ ys) x l e =
     ap (λ t. t ∷ ys) e ∙ ap (λ t. x ∷ t) (sym (take_all (length (y ∷ ys) - 1) ys (omega arith)))
+
+-- the first space, or the end where there is none, cuts the list
+pub cut_at : (xs : List ℕ) (r : Option ℕ) → MatchOption r (AllWithin (λ x. x ≡ 32 → ⊥) xs 0 (length xs)) (λ i. (i < length xs) × HoldsAt (λ x. x ≡ 32) xs i × AllWithin (λ x. x ≡ 32 → ⊥) xs 0 i) → (take (unwrap_or r (length xs)) xs ≡ word xs) × (drop (unwrap_or r (length xs)) xs ≡ after_word xs)
+cut_at xs None solid =
+    let w = word_all xs (λ k h. solid k 0 (omega arith) h) in
+    (take_all (length xs) xs (omega arith) ∙ sym w.0, drop_all (length xs) xs (omega arith) ∙ sym w.1)
+cut_at xs (Some i) first =
+    let w = word_at xs i (λ k h. first.2 k 0 (omega arith) h) first.0 (first.1 0) in
+    (sym w.0, sym w.1)
 
 -- equal lists have equal first elements
 pub same_first : (a b : ℕ) (xs ys : List ℕ) → a ∷ xs ≡ b ∷ ys → a ≡ b

@@ -3,3 +3,4 @@ pub mod Numerics
 pub mod Pairs
 pub mod Forms
 pub mod Spelling
+pub mod Room

@@ -1,13 +1,24 @@
 -- A text begins with a number field in one way only.
-use Rattle.std.proofs.Common.{◌≡◌, ℕ, List, [], ◌∷◌, ◌++◌, sym, refl, ap, ◌∙◌, subst, inl, inr, arith}
+use Rattle.std.proofs.Common.{◌≡◌, ℕ, ◌-◌, ◌<◌, List, [], ◌∷◌, ◌++◌, sym, refl, ap, ◌∙◌, subst, inl, inr, arith}
 use Rattle.console_text.specs.Words.{after_spaces}
 use Rattle.console_text.specs.Fields.{word, after_word, Ends, NumberThen}
-use Rattle.console_text.specs.Numerals.{Numeral, Writes}
+use Rattle.console_text.specs.Numerals.{Digit, Numeral, Writes}
+use Rattle.std.specs.Char.{IsDigitOf}
 use Rattle.console_text.proofs.Cutting.{Solid, word_append, word_joined, same_rest}
 
 -- a numeral has no space
 pub solid_numeral : (ds : List ℕ) → Numeral ds → Solid ds
 solid_numeral ds n k h e = omega (arith, n.digits k h)
+
+-- the digit of a number below ten is decimal
+pub decimal_digit : (c d : ℕ) → d < 10 → IsDigitOf c d → Digit c × (d ≡ c - 48)
+decimal_digit c d few is = elim is [
+  | inl low ↦ ((omega arith, omega arith), omega arith)
+  | inr letter ↦ elim letter [
+    | inl capital ↦ absurd (omega arith)
+    | inr small ↦ absurd (omega arith)
+  ]
+]
 
 -- what stands after spaces is nothing, or begins with a space
 pub ends_after : (ws : List (List ℕ)) → Ends (after_spaces ws)

@@ -4,4 +4,3 @@ pub mod Hexadecimal
 pub mod Fields
 pub mod Commands
 pub mod Answers
-pub mod Lines

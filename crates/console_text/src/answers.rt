@@ -2,8 +2,8 @@
 
 use grid::Higher;
 
-// One answer.
-#[derive(Clone, Copy)]
+// One answer; the number of a denial is told by whoever denies, and only written here. Two variants of a denial, as lines have two.
+#[derive(Clone, Copy, PartialEq, Eq, Debug)]
 pub enum Answer {
     Done,
     Steps(u64),

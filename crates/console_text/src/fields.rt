@@ -1,25 +1,15 @@
 //! The fields of a line: numbers and hexadecimal digits, each after one space.
 
-ghost use Rattle.std.specs.Prelude.{◌≡◌, ℕ, ◌-◌, List, ◌∷◌, MatchOption};
+ghost use Rattle.std.specs.Prelude.{◌≡◌, ℕ, List, ◌∷◌, MatchOption};
 ghost use Rattle.console_text.specs.Fields.{word, after_word, NumberThen};
 ghost use Rattle.console_text.specs.Hexadecimal.{HexPairs};
-ghost use Rattle.console_text.specs.Numerals.{Digit, Numeral, value_of};
+ghost use Rattle.console_text.specs.Numerals.{Numeral, value_of};
 ghost use Rattle.std.specs.Option.{SomeIff};
 
 use crate::hexadecimal::is_hex_pairs;
 
 // The most digits that a number may have.
 const MAX_DIGITS: usize = 7;
-
-// The value of one decimal digit.
-fn digit(byte: u8) -> Option<u32>
-    ensures { SomeIff result (Digit byte) (byte - 48) }
-{
-    match byte as char {
-        '0'..='9' => Some(u32::from(byte - b'0')),
-        _ => None,
-    }
-}
 
 // The number that one to seven decimal digits write.
 fn number(field: &[u8]) -> Option<u32>
@@ -30,8 +20,7 @@ fn number(field: &[u8]) -> Option<u32>
     }
     let mut value = 0;
     for byte in field {
-        let digit = digit(*byte)?;
-        value = 10 * value + digit;
+        value = 10 * value + (*byte as char).to_digit(10)?;
     }
     Some(value)
 }
@@ -41,12 +30,8 @@ fn cut(text: &[u8]) -> (&[u8], &[u8])
     ensures front { result.0.now ≡ word text.now }
     ensures back { result.1.now ≡ after_word text.now }
 {
-    for (i, byte) in text.iter().enumerate() {
-        if *byte == b' ' {
-            return text.split_at(i);
-        }
-    }
-    text.split_at(text.len())
+    let end = text.iter().position(|byte| *byte == b' ');
+    text.split_at(end.unwrap_or(text.len()))
 }
 
 // A space and a number, and what follows them.
@@ -67,9 +52,5 @@ pub(crate) fn hex_field(text: &[u8]) -> Option<&[u8]>
     let [b' ', digits @ ..] = text else {
         return None;
     };
-    if is_hex_pairs(digits) {
-        Some(digits)
-    } else {
-        None
-    }
+    is_hex_pairs(digits).then_some(digits)
 }

@@ -1,9 +1,9 @@
 -- Calls in whole metres match the converted calls in binary32 numbers.
-use Rattle.std.proofs.Common.{◌≡◌, ℕ, zero, suc, ◌+◌, ◌*◌, ◌/◌, ◌<◌, true, cond, eqb, List, length, get_or, take, drop, ℤ, pos, negsuc, is_ok, Ok, Err, sym, ap, ◌∙◌, subst, ⊎_elim, arith, w16, to_z}
+use Rattle.std.proofs.Common.{◌≡◌, ℕ, zero, suc, ◌+◌, ◌*◌, ◌/◌, ◌<◌, true, eqb, List, length, get_or, take, drop, ℤ, pos, negsuc, is_ok, Ok, sym, ap, ◌∙◌, subst, arith, w16, to_z}
 use lib.Signed.{le_z}
 use Rattle.std.proofs.lemmas.List.{get_or-take, get_or-drop}
-use Rattle.std.proofs.lemmas.Bool.{cases_eq, eqb-true, eq-eqb, ne_eqb, cond-false}
-use Rattle.heights.specs.Patterns.{exponent, unread_cause}
+use Rattle.std.proofs.lemmas.Bool.Decides.{nat_tests}
+use Rattle.heights.specs.Patterns.{exponent}
 use Rattle.heights.specs.Float.{pattern, float_not_higher}
 use Rattle.heights.specs.declared.float.FloatBits.{FloatBits}
 use Rattle.siting_box.specs.Stored.{stored_at}
@@ -40,22 +40,15 @@ finite p (negsuc n) is = is.1.below_most
 
 -- four bytes that store such a number read
 float_stored : (bytes : List ℕ) (i : ℕ) (z : ℤ) → IsMetres (pattern_at bytes i) z → stored_at float_storage bytes i ≡ Ok (record { bits = pattern_at bytes i })
-float_stored bytes i z is =
-    let p = pattern_at bytes i in
-    ap (λ n. cond (eqb (exponent n) 255) (Err (unread_cause n)) (Ok (record { bits = n }))) (pattern_stored bytes i)
-    ∙ cond-false (eqb (exponent p) 255) (Err (unread_cause p)) (Ok (record { bits = p })) (ne_eqb (exponent p) 255 (λ h. omega (arith, finite p z is)))
+float_stored bytes i z is = grind (arith, nat_tests, pattern_stored bytes i, finite (pattern_at bytes i) z is)
 
 -- the bytes of a call are as many as they should be where the converted ones are
 lengths_agree : (n long long' : ℕ) → long' ≡ converted_length long → eqb long (n * 2) ≡ eqb long' (n * 4)
-lengths_agree n long long' h =
-    ⊎_elim
-    (λ same. eq-eqb long (n * 2) same ∙ sym (eq-eqb long' (n * 4) (omega arith)))
-    (λ other. ne_eqb long (n * 2) other ∙ sym (ne_eqb long' (n * 4) (λ same. other (omega arith))))
-    (cases_eq long (n * 2))
+lengths_agree n long long' h = grind (arith, nat_tests)
 
 -- a stored height of a call with as many bytes as it should have is one of those that are converted
 within : (c : Call) (i : ℕ) → right whole_storage c ≡ true → i < brings (form c) → i < length (brought c) / 2
-within c i long h = omega (arith, eqb-true (length (brought c)) (brings (form c) * 2) long)
+within c i long h = grind (arith, nat_tests)
 
 -- a call and the converted one are partners
 partners : (c c' : Call) → ConvertedCall c c' → Partners whole_storage float_storage c c'

@@ -1,12 +1,13 @@
 -- Whole metres and the patterns of their numbers are in the same order.
-use Rattle.std.proofs.Common.{◌≡◌, ℕ, zero, suc, ◌+◌, ◌-◌, ◌*◌, ◌%◌, ◌^◌, ◌<◌, ◌≤◌, ltb, leb, ℤ, pos, negsuc, neg_ℤ, sym, refl, ap, ◌∙◌, subst, ⊎_elim, mul-lt-mul_of_pos_right, arith, pow_pos, pow_mono}
+use Rattle.std.proofs.Common.{◌≡◌, ℕ, zero, suc, ◌+◌, ◌-◌, ◌*◌, ◌%◌, ◌^◌, ◌<◌, ◌≤◌, leb, ℤ, pos, negsuc, refl, ap, ◌∙◌, subst, ⊎_elim, mul-lt-mul_of_pos_right, arith, pow_pos, pow_mono}
 use native.Mathlib.Nat.{pow-succ'}
-use lib.Dec.{leb-suc-suc}
 use lib.Signed.{le_z}
 use Rattle.heights.specs.Patterns.{exponent, fraction}
 use Rattle.heights.specs.Float.{key, float_not_higher}
-use Rattle.std.proofs.lemmas.Bool.{cases_lt, cases_order, le-leb, lt-leb, lt-ltb, le-ltb, cond-true, cond-false}
+use Rattle.std.proofs.lemmas.Bool.{cases_order}
 use Rattle.std.proofs.lemmas.Nat.{mul-le}
+use Rattle.std.proofs.lemmas.Bool.Decides.{nat_tests}
+use Rattle.std.proofs.lemmas.Int.{ints}
 use Rattle.conversion.specs.Metres.{sign, Normal, Magnitude, IsMetres}
 
 -- the exponent and fraction bits as one number
@@ -48,43 +49,21 @@ written_same p q h =
 
 -- magnitudes are in the order of their places
 same_places : (p q n m : ℕ) → Magnitude p n → Magnitude q m → leb n m ≡ leb (place p) (place q)
-same_places p q zero m a b = le-leb 0 m (omega arith) ∙ sym (le-leb (place p) (place q) (omega arith))
-same_places p q (suc n) zero a b = lt-leb (suc n) 0 (omega arith) ∙ sym (lt-leb (place p) (place q) (omega (arith, a.above_least)))
-same_places p q (suc n) (suc m) a b =
-    ⊎_elim
-    (λ same. le-leb (suc n) (suc m) (omega (arith, written_same p q same, a.value, b.value)) ∙ sym (le-leb (place p) (place q) (omega arith)))
-    (⊎_elim
-    (λ less. le-leb (suc n) (suc m) (omega (arith, written_later p q less, a.value, b.value)) ∙ sym (le-leb (place p) (place q) (omega arith)))
-    (λ more. lt-leb (suc n) (suc m) (omega (arith, written_later q p more, a.value, b.value)) ∙ sym (lt-leb (place p) (place q) more)))
-    (cases_order (place p) (place q))
-
--- the negative of a number other than 0
-negative : (n : ℕ) → 0 < n → neg_ℤ (pos n) ≡ negsuc (n - 1)
-negative zero h = absurd (let none : ⊥ = omega arith in none)
-negative (suc n) h = ap negsuc (omega arith)
+same_places p q zero m a b = grind (arith, nat_tests)
+same_places p q (suc n) zero a b = grind (arith, nat_tests)
+same_places p q (suc n) (suc m) a b = grind (arith, nat_tests, written_same p q, written_later p q, written_later q p)
 
 -- the key of a pattern whose sign bit is clear
 key_clear : (p : ℕ) → sign p ≡ 0 → key p ≡ pos (place p)
-key_clear p h = cond-true (ltb p 2147483648) (pos p) (neg_ℤ (pos (place p))) (lt-ltb p 2147483648 (omega arith)) ∙ ap pos (omega arith)
+key_clear p h = grind (arith, nat_tests)
 
 -- the key of a pattern whose sign bit is set
 key_set : (p n : ℕ) → sign p ≡ 1 → Normal p n → key p ≡ negsuc (place p - 1)
-key_set p n h a =
-    cond-false (ltb p 2147483648) (pos p) (neg_ℤ (pos (place p))) (le-ltb p 2147483648 (omega arith)) ∙ negative (place p) (omega (arith, a.above_least))
-
--- numbers other than 0 compare as those that are one less
-one_less : (n m : ℕ) → 0 < n → 0 < m → leb n m ≡ leb (n - 1) (m - 1)
-one_less n m a b =
-    ⊎_elim
-    (λ h. lt-leb n m h ∙ sym (lt-leb (n - 1) (m - 1) (omega arith)))
-    (λ h. le-leb n m h ∙ sym (le-leb (n - 1) (m - 1) (omega arith)))
-    (cases_lt m n)
+key_set p n h a = grind (arith, ints, nat_tests)
 
 -- whole metres compare as the patterns of their numbers do
 pub same_order : (a b : ℤ) (p q : ℕ) → IsMetres p a → IsMetres q b → le_z a b ≡ float_not_higher (record { bits = p }) (record { bits = q })
 same_order (pos n) (pos m) p q a b = rw (key_clear p a.0, key_clear q b.0) (same_places p q n m a.1 b.1)
 same_order (pos n) (negsuc m) p q a b = rw (key_clear p a.0, key_set q (suc m) b.0 b.1) refl
 same_order (negsuc n) (pos m) p q a b = rw (key_set p (suc n) a.0 a.1, key_clear q b.0) refl
-same_order (negsuc n) (negsuc m) p q a b =
-    rw (key_set p (suc n) a.0 a.1, key_set q (suc m) b.0 b.1)
-    (sym (leb-suc-suc m n) ∙ same_places q p (suc m) (suc n) b.1 a.1 ∙ one_less (place q) (place p) (omega (arith, b.1.above_least)) (omega (arith, a.1.above_least)))
+same_order (negsuc n) (negsuc m) p q a b = rw (key_set p (suc n) a.0 a.1, key_set q (suc m) b.0 b.1) (grind (arith, nat_tests, same_places q p (suc m) (suc n) b.1 a.1))

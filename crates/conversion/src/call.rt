@@ -12,34 +12,34 @@ fn converted_bytes<'a>(whole: &[u8], out: &'a mut [u8]) -> Option<&'a [u8]>
     ensures { MatchOption result (length out.old < converted_length (length whole.now)) (λ bytes. Converted whole.now bytes.now) }
 {
     let size = store_as_float(whole, out)?;
-    Some(&out[0..size])
+    Some(&out[..size])
 }
 
 // The call with its stored heights converted into the front of `out`; `None` where `out` is too short.
 pub fn convert_call<'a>(call: &Call<'_>, out: &'a mut [u8]) -> Option<Call<'a>>
     ensures { MatchOption result (length out.old < converted_length (length (brought call.now))) (λ converted. ConvertedCall call.now converted) }
 {
-    match *call {
+    Some(match *call {
         Call::Open {
             width,
             rows,
             radius,
             bytes,
-        } => Some(Call::Open {
+        } => Call::Open {
             width,
             rows,
             radius,
             bytes: converted_bytes(bytes, out)?,
-        }),
-        Call::Alter { x, y, bytes } => Some(Call::Alter {
+        },
+        Call::Alter { x, y, bytes } => Call::Alter {
             x,
             y,
             bytes: converted_bytes(bytes, out)?,
-        }),
-        Call::Sweep => Some(Call::Sweep),
-        Call::Tell { x, y } => Some(Call::Tell { x, y }),
-        Call::Share { x, y } => Some(Call::Share { x, y }),
-        Call::Nearest { x, y } => Some(Call::Nearest { x, y }),
-        Call::Total => Some(Call::Total),
-    }
+        },
+        Call::Sweep => Call::Sweep,
+        Call::Tell { x, y } => Call::Tell { x, y },
+        Call::Share { x, y } => Call::Share { x, y },
+        Call::Nearest { x, y } => Call::Nearest { x, y },
+        Call::Total => Call::Total,
+    })
 }

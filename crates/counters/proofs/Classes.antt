@@ -1,10 +1,10 @@
 -- The distinct heights of a list: they are the same in lists that hold the same heights, and more in more heights.
-use Rattle.std.proofs.Common.{◌≡◌, ℕ, ◌+◌, ◌<◌, ◌≤◌, Bool, true, false, cond, List, [], ◌∷◌, ◌++◌, length, sym, refl, ap, ◌∙◌, arith}
-use Rattle.std.proofs.lemmas.Bool.{both_ways, false≢true}
+use Rattle.std.proofs.Common.{◌≡◌, ◌+◌, ◌<◌, ◌≤◌, Bool, true, false, cond, List, [], ◌∷◌, sym, refl, ap, ◌∙◌, arith}
+use Rattle.std.proofs.lemmas.Bool.{both_ways, false≢true, false_from_ne_true}
+use Rattle.std.proofs.lemmas.Bool.Decides.{nat_tests}
 use Rattle.heights.specs.Order.{Preorder, level}
-use Rattle.counters.specs.Held.{tally, Same, Blind, level_with, has_level, distinct}
-use Rattle.counters.proofs.Preorders.{never_true, equal_tests, level_parts, level_self, level_symmetric, level_transitive, blind_level, blind_level_of}
-use Rattle.counters.proofs.Tallies.{tally_le_length}
+use Rattle.counters.specs.Held.{Same, Blind, level_with, has_level, distinct}
+use Rattle.counters.proofs.Preorders.{equal_tests, level_parts, level_self, level_symmetric, level_transitive, blind_level, blind_level_of}
 
 -- ---- whether a list has a height level with h
 
@@ -21,23 +21,15 @@ later : (a b : Bool) → b ≡ true → cond a true b ≡ true
 later true b e = refl
 later false b e = e
 
-some_counted : (b c : Bool) (n : ℕ) → cond b true c ≡ true → (c ≡ true → 0 < n) → 0 < cond b 1 0 + n
-some_counted true c n e f = omega arith
-some_counted false c n e f = omega (arith, f e)
-
 -- what a list has, it counts
 pub has_level_counts : {X : Type 0} (le : X → X → Bool) (xs : List X) (h : X) → has_level le xs h ≡ true → 0 < level_with le xs h
 has_level_counts le [] h e = absurd (false≢true e)
-has_level_counts le (x ∷ xs) h e = some_counted (level le x h) (has_level le xs h) (level_with le xs h) e (has_level_counts le xs h)
-
-counted_some : (b c : Bool) (n : ℕ) → 0 < cond b 1 0 + n → (0 < n → c ≡ true) → cond b true c ≡ true
-counted_some true c n e f = refl
-counted_some false c n e f = f (omega arith)
+has_level_counts le (x ∷ xs) h e = grind (arith, nat_tests, has_level_counts le xs h)
 
 -- what a list counts, it has
 pub counts_has_level : {X : Type 0} (le : X → X → Bool) (xs : List X) (h : X) → 0 < level_with le xs h → has_level le xs h ≡ true
 counts_has_level le [] h e = absurd (omega arith)
-counts_has_level le (x ∷ xs) h e = counted_some (level le x h) (has_level le xs h) (level_with le xs h) e (counts_has_level le xs h)
+counts_has_level le (x ∷ xs) h e = grind (arith, nat_tests, counts_has_level le xs h)
 
 -- the same heights have or have not a height level with h
 pub same_has_level : {X : Type 0} {le : X → X → Bool} → Preorder le → (xs ys : List X) (h : X) → Same le xs ys → has_level le xs h ≡ has_level le ys h
@@ -57,17 +49,13 @@ has_without_step : {X : Type 0} {le : X → X → Bool} → Preorder le → (h y
     → has_level le (without le h zs) y ≡ has_level le zs y → has_level le (cond b (without le h zs) (z ∷ without le h zs)) y ≡ has_level le (z ∷ zs) y
 has_without_step {le = le} o h y off z zs true e i =
     let f : level le z y ≡ false
-    = never_true (level le z y) (λ t. both_ways (level le y h) off (level_transitive o y z h (level_symmetric le z y t) e)) in
+    = false_from_ne_true (level le z y) (λ t. both_ways (level le y h) off (level_transitive o y z h (level_symmetric le z y t) e)) in
     rw f i
 has_without_step {le = le} o h y off z zs false e i = ap (λ t. cond (level le z y) true t) i
 
 has_without : {X : Type 0} {le : X → X → Bool} → Preorder le → (h y : X) → level le y h ≡ false → (ys : List X) → has_level le (without le h ys) y ≡ has_level le ys y
 has_without o h y off [] = refl
 has_without {le = le} o h y off (z ∷ zs) = has_without_step o h y off z zs (level le z h) refl (has_without o h y off zs)
-
-either : (b : Bool) (n k m : ℕ) → k ≡ cond b n 0 + m → cond b 0 n + k ≡ n + m
-either true n k m e = omega arith
-either false n k m e = omega arith
 
 distinct_without_step : {X : Type 0} {le : X → X → Bool} → Preorder le → (p : X → Bool) → Blind le p → (h z : X) (zs : List X) (b : Bool) → level le z h ≡ b
     → distinct le p zs ≡ cond (has_level le zs h) (cond (p h) 1 0) 0 + distinct le p (without le h zs)
@@ -76,7 +64,7 @@ distinct_without_step {le = le} o p bl h z zs true e i =
     let u = level_parts le z h e in
     let e1 : has_level le zs z ≡ has_level le zs h = blind_has_level o zs z h u.0 u.1 in
     let e2 : p z ≡ p h = bl z h u.0 u.1 in
-    rw (e1, e2) (either (has_level le zs h) (cond (p h) 1 0) (distinct le p zs) (distinct le p (without le h zs)) i)
+    rw (e1, e2) (grind (arith, nat_tests, i))
 distinct_without_step {le = le} o p bl h z zs false e i =
     let e1 = has_without o h z e zs in
     rw e1 (omega (arith, i))
@@ -105,7 +93,7 @@ distinct_within_step {le = le} o p bl x xs ys f i false e =
     let j = i (without le x ys)
     (λ z t.
     let off : level le z x ≡ false
-    = never_true (level le z x) (λ l.
+    = false_from_ne_true (level le z x) (λ l.
     let u = level_parts le z x l in
     both_ways (has_level le xs x) e (sym (blind_has_level o xs z x u.0 u.1) ∙ t)) in
     has_without o x z off ys ∙ f z (later (level le x z) (has_level le xs z) t)) in
@@ -123,25 +111,3 @@ same_distinct {le = le} o p bl xs ys s =
     let a = distinct_within o p bl xs ys (λ x t. sym (same_has_level o xs ys x s) ∙ t) in
     let b = distinct_within o p bl ys xs (λ x t. same_has_level o xs ys x s ∙ t) in
     omega arith
-
--- a list has no fewer distinct heights with one more before it
-pub distinct_cons : {X : Type 0} (le : X → X → Bool) (p : X → Bool) (x : X) (xs : List X) → distinct le p xs ≤ distinct le p (x ∷ xs)
-distinct_cons le p x xs = omega arith
-
--- a list has no fewer distinct heights with others before it
-pub distinct_append_left : {X : Type 0} (le : X → X → Bool) (p : X → Bool) (xs ys : List X) → distinct le p ys ≤ distinct le p (xs ++ ys)
-distinct_append_left le p [] ys = omega arith
-distinct_append_left le p (x ∷ xs) ys = omega (arith, distinct_append_left le p xs ys)
-
-at_most : (b : Bool) (n m k : ℕ) → m ≤ k → cond b 0 n + m ≤ n + k
-at_most true n m k l = omega arith
-at_most false n m k l = omega arith
-
--- the distinct heights that pass a test are no more than all that pass it
-pub distinct_le_tally : {X : Type 0} (le : X → X → Bool) (p : X → Bool) (xs : List X) → distinct le p xs ≤ tally p xs
-distinct_le_tally le p [] = omega arith
-distinct_le_tally le p (x ∷ xs) = at_most (has_level le xs x) (cond (p x) 1 0) (distinct le p xs) (tally p xs) (distinct_le_tally le p xs)
-
--- the distinct heights are no more than the heights
-pub distinct_le_length : {X : Type 0} (le : X → X → Bool) (p : X → Bool) (xs : List X) → distinct le p xs ≤ length xs
-distinct_le_length le p xs = omega (arith, distinct_le_tally le p xs, tally_le_length p xs)

@@ -7,10 +7,10 @@ use heights::height::Height;
 use heights::layer::Layer;
 
 // Why a counter refuses a call: it has no place left, or it holds no such height.
-#[derive(Clone, Copy)]
+#[derive(Clone, Copy, PartialEq, Eq, Debug)]
 pub enum Refusal {
-    Full,
-    Missing,
+    Full = 11,
+    Missing = 12,
 }
 
 impl Refusal {
@@ -18,25 +18,19 @@ impl Refusal {
     pub fn number(self) -> u8
         ensures { result ≡ refusal_number self }
     {
-        match self {
-            Refusal::Full => 11,
-            Refusal::Missing => 12,
-        }
+        self as u8
     }
 
     // The layer that asked it.
     pub fn layer(self) -> Layer
         ensures { result ≡ refusal_layer self }
     {
-        match self {
-            Refusal::Full => Layer::Counter,
-            Refusal::Missing => Layer::Counter,
-        }
+        Layer::Counter
     }
 }
 
 // What ask tells: how many held heights are not higher, and its steps.
-#[derive(Clone, Copy)]
+#[derive(Clone, Copy, PartialEq, Eq, Debug)]
 pub struct Asked {
     pub count: u32,
     pub steps: u64,

@@ -7,7 +7,7 @@ const KEPT: usize = 3;
 // The most places that a counter has.
 const MOST_PLACES: usize = 1_048_576;
 // The mileage that no sum of steps passes.
-const MOST_MILEAGE: u64 = 4_611_686_018_427_387_904;
+const MOST_MILEAGE: u64 = 1 << 62;
 
 // The places of a memory of so many entries.
 pub fn places_of(entries: usize) -> usize

@@ -1,15 +1,15 @@
 -- Neighbours in the order, one step from the one to the other, and where a walk stops.
 use Rattle.std.proofs.Common.{◌≡◌, ℕ, ◌+◌, ◌-◌, ◌<◌, ◌≤◌, Bool, true, false, not, List, length, get_or, sym, ap, ◌∙◌, subst, arith}
 use Rattle.std.proofs.lemmas.List.{get_or_default, get_or_read}
-use Rattle.std.proofs.lemmas.Bool.{both_ways, not-true}
+use Rattle.std.proofs.lemmas.Bool.{both_ways, not-true, true_from_ne_false, false_from_ne_true}
 use Rattle.finger_list.specs.declared.entry.Entry.{Entry}
 use Rattle.finger_list.specs.Entries.{in_use, height_at, prev_at}
 use Rattle.finger_list.specs.Linking.{Linked, not_past, onwards, Adjacent, InOrder, StandsAt}
 use Rattle.finger_list.specs.Walking.{NotOver, NotUnder, one, many, weighs, Went}
 use Rattle.heights.specs.Order.{Preorder}
-use Rattle.counters.proofs.Preorders.{equal_tests, never_true, reflexive, other_way}
+use Rattle.counters.proofs.Preorders.{equal_tests, reflexive, other_way}
 use Rattle.finger_list.proofs.Weights.{weighs_one_more, weighs_full, length_used, at_used, weighs_none, by_link}
-use Rattle.finger_list.proofs.Chains.{never_false, np_end, np_at, ow_end, ow_at}
+use Rattle.finger_list.proofs.Chains.{np_end, np_at, ow_end, ow_at}
 
 -- from one neighbour to the next above, the entry k is all that comes in
 pub step_at : {X : Type 0} {le : X → X → Bool} (o : Preorder le)
@@ -23,7 +23,7 @@ step_at {le = le} o es used s d i k pos low cut = (
       let hj = height_at es d j in
       let hk = height_at es d k in
       equal_tests _ _
-      (λ q. never_false (not_past le (height_at es d) i hj) (λ off.
+      (λ q. true_from_ne_false (not_past le (height_at es d) i hj) (λ off.
       let on : le hk hj ≡ true = sym (ow_at le (height_at es d) k hj pos) ∙ cut j h₁ h₂ ∙ ap not off in
       ne ((s d).apart j k h₁ h₂ (omega arith) low (sym (np_at le (height_at es d) k hj pos) ∙ q) on)))
       (λ q. np_at le (height_at es d) k hj pos ∙ other_way o hk hj (sym (ow_at le (height_at es d) k hj pos) ∙ cut j h₁ h₂ ∙ ap not q)),
@@ -57,7 +57,7 @@ pub stops_up : {X : Type 0} {le : X → X → Bool} (o : Preorder le)
 stops_up {le = le} o es used i k h under cut over d j h₁ h₂ =
     let hj = height_at es d j in
     equal_tests _ _
-    (λ q. never_false _ (λ off.
+    (λ q. true_from_ne_false _ (λ off.
     let on : onwards le (height_at es d) k hj ≡ true = cut d j h₁ h₂ ∙ ap not off in
     let pos : k ≡ 0 → ⊥ = λ z. both_ways _ (ow_end le (height_at es d) k hj z) on in
     both_ways _ (over d pos) (o.transitive _ hj h (sym (ow_at le (height_at es d) k hj pos) ∙ on) q)))
@@ -77,17 +77,6 @@ stops_full {X} {le} o es used i h room under full d j h₁ h₂ =
     let pos : i ≡ 0 → ⊥ = λ z. both_ways _ (np_end le (height_at es d) i hj z) on in
     o.transitive hj _ h (sym (np_at le (height_at es d) i hj pos) ∙ on) (under d pos) ∙ sym on
 
--- a walk down stops where h stands: at an entry that is not higher, or at the end
-pub stops_down : {X : Type 0} {le : X → X → Bool} (o : Preorder le)
-    (es : List (Entry X)) (used : ℕ) (i : ℕ) (h : X) → NotUnder le es used i h → NotOver le es i h → StandsAt le es used h i
-stops_down {le = le} o es used i h over under d j h₁ h₂ =
-    let hj = height_at es d j in
-    equal_tests _ _
-    (λ q. never_false _ (λ off. both_ways _ (over d j h₁ h₂ off) q))
-    (λ q.
-    let pos : i ≡ 0 → ⊥ = λ z. both_ways _ (np_end le (height_at es d) i hj z) q in
-    o.transitive hj _ h (sym (np_at le (height_at es d) i hj pos) ∙ q) (under d pos))
-
 -- a walk down that has passed all entries is where h stands
 pub stops_none : {X : Type 0} (le : X → X → Bool)
     (es : List (Entry X)) (used : ℕ) (i : ℕ) (h : X) → used ≤ length es - 1 → NotUnder le es used i h
@@ -105,11 +94,7 @@ pub still_over : {X : Type 0} {le : X → X → Bool} (o : Preorder le)
     → ((d : Entry X) → Adjacent le es used d a i) → NotUnder le es used a h
 still_over {le = le} o es used a i h pos high cut d j h₁ h₂ off =
     let hj = height_at es d j in
-    never_true _ (λ q. both_ways _ (high d) (o.transitive _ hj h (sym (ow_at le (height_at es d) i hj pos) ∙ cut d j h₁ h₂ ∙ ap not off) q))
-
--- a walk that has not begun
-pub went_none : {X : Type 0} (le : X → X → Bool) (es : List (Entry X)) (used a : ℕ) → Went le es used a a 0 0
-went_none le es used a = record { ranks = λ d. omega arith; counts = λ d. omega arith }
+    false_from_ne_true _ (λ q. both_ways _ (high d) (o.transitive _ hj h (sym (ow_at le (height_at es d) i hj pos) ∙ cut d j h₁ h₂ ∙ ap not off) q))
 
 -- a walk up grows by one step
 pub went_up : {X : Type 0} {le : X → X → Bool} (o : Preorder le)

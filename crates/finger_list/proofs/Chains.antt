@@ -1,20 +1,15 @@
 -- Linked lists in order, over plain functions of the entries: where a height stands, and a height that comes in.
-use Rattle.std.proofs.Common.{◌≡◌, ℕ, ◌<◌, Bool, true, false, cond, not, eqb, ◌⊎◌, sym, refl, ap, ◌∙◌, subst, ⊎_elim, arith}
-use Rattle.std.proofs.lemmas.Bool.{both_ways, cases_eq, eq-eqb, ne_eqb, not-true}
+use Rattle.std.proofs.Common.{◌≡◌, ℕ, ◌<◌, Bool, true, false, cond, not, eqb, ◌⊎◌, sym, ap, ◌∙◌, subst, ⊎_elim, arith}
+use Rattle.std.proofs.lemmas.Bool.{both_ways, cases_eq, eq-eqb, ne_eqb, not-true, true_from_ne_false, false_from_ne_true}
 use Rattle.finger_list.specs.Linking.{not_past, onwards, Neighbours, Chain, Stands}
 use Rattle.heights.specs.Order.{Preorder}
-use Rattle.counters.proofs.Preorders.{equal_tests, never_true, reflexive, other_way}
-
--- a test that cannot fail passes
-pub never_false : (b : Bool) → (b ≡ false → ⊥) → b ≡ true
-never_false true f = refl
-never_false false f = absurd (f refl)
+use Rattle.counters.proofs.Preorders.{equal_tests, reflexive, other_way}
 
 -- of two heights that are not level, one way round or the other
 pub strict : {X : Type 0} {le : X → X → Bool} (o : Preorder le) (x y : X)
     → (le x y ≡ true → le y x ≡ true → ⊥) → le x y ≡ not (le y x)
 strict {le = le} o x y off =
-    equal_tests _ _ (λ q. ap not (never_true (le y x) (off q))) (λ q. other_way o y x (not-true _ q))
+    equal_tests _ _ (λ q. ap not (false_from_ne_true (le y x) (off q))) (λ q. other_way o y x (not-true _ q))
 
 -- nothing is not past the end
 pub np_end : {X : Type 0} (le : X → X → Bool) (H : ℕ → X) (i : ℕ) (x : X) → i ≡ 0 → not_past le H i x ≡ false
@@ -46,7 +41,7 @@ pub stands_up : {X : Type 0} {le : X → X → Bool} (o : Preorder le)
     → Neighbours le H L i k → onwards le H k h ≡ false → Stands le H L h i
 stands_up {le = le} o H L i k h under cut over j pos l =
     equal_tests _ _
-    (λ q. never_false _ (λ off.
+    (λ q. true_from_ne_false _ (λ off.
     let on : onwards le H k (H j) ≡ true = cut j pos l ∙ ap not off in
     let nz = ow_link le H k (H j) on in
     both_ways _ over (ow_at le H k h nz ∙ o.transitive _ (H j) h (sym (ow_at le H k (H j) nz) ∙ on) q)))
@@ -78,12 +73,12 @@ pub meet_new : {X : Type 0} {le : X → X → Bool} (o : Preorder le)
     → Stands le H L h a → Neighbours le H L i m → onwards le H m h ≡ not (not_past le H i h)
 meet_new {le = le} o H N L c h a i m la li ne sa cut =
     equal_tests _ _
-    (λ on. ap not (never_true (not_past le H i h) (λ q.
+    (λ on. ap not (false_from_ne_true (not_past le H i h) (λ q.
     let nm = ow_link le H m h on in
     let ni = np_link le H i h q in
     let up : onwards le H m (H i) ≡ true = ow_at le H m (H i) nm ∙ o.transitive _ h _ (sym (ow_at le H m h nm) ∙ on) (sym (np_at le H i h ni) ∙ q) in
     both_ways _ (cut i (omega arith) li ∙ ap not (np_at le H i (H i) ni ∙ reflexive o (H i))) up)))
-    (λ off. never_false (onwards le H m h) (λ q.
+    (λ off. true_from_ne_false (onwards le H m h) (λ q.
     ne (stands_once o H N L c h i a li la
     (stands_up o H L i m h (λ ni. other_way o h (H i) (sym (np_at le H i h ni) ∙ not-true _ off)) cut q) sa)))
 
@@ -124,12 +119,12 @@ chain_insert {X} {le} o H N L H' N' L' c h a n la pos inside sa new more hn hs n
     let meet-an : Neighbours le H' L' a n
     = each (λ x. onwards le H' n x ≡ not (not_past le H' a x))
     (λ j p l. own (H j) ∙ strict o h (H j) (free j p l) ∙ ap not (sa j p l ∙ sym (np a (H j) la)))
-    (own h ∙ reflexive o h ∙ sym (ap not (np a h la ∙ never_true (not_past le H a h) (λ q. let x = np_link le H a h q in both_ways _ (new x) (sym (np_at le H a h x) ∙ q))))) in
+    (own h ∙ reflexive o h ∙ sym (ap not (np a h la ∙ false_from_ne_true (not_past le H a h) (λ q. let x = np_link le H a h q in both_ways _ (new x) (sym (np_at le H a h x) ∙ q))))) in
     let meet-nk : Neighbours le H' L' n k
     = each (λ x. onwards le H' k x ≡ not (not_past le H' n x))
     (λ j p l. ow k (H j) lk ∙ c.up a la j p l ∙ sym (ap not (npn (H j) ∙ sa j p l)))
     (ow k h lk
-    ∙ never_true (onwards le H k h) (λ q.
+    ∙ false_from_ne_true (onwards le H k h) (λ q.
     let kz = ow_link le H k h q in
     let on : not_past le H a (H k) ≡ true = sym (sa k (omega arith) lk) ∙ sym (ow_at le H k h kz) ∙ q in
     both_ways _ (c.up a la k (omega arith) lk ∙ ap not on) (ow_at le H k (H k) kz ∙ reflexive o (H k)))

@@ -2,7 +2,7 @@
 use Rattle.std.proofs.Common.{◌≡◌, ℕ, zero, suc, ◌+◌, ◌-◌, ◌<◌, ◌≤◌, Bool, true, false, cond, not, ◌&&◌, List, [], ◌∷◌, ◌++◌, length, get_or, replicate, sym, refl, ap, ◌∙◌, subst, ⊎_elim, arith}
 use Rattle.std.proofs.lemmas.List.{get_or_default}
 use Rattle.std.proofs.lemmas.List.Sums.{sum_by-cons}
-use Rattle.std.proofs.lemmas.Bool.{cases_Bool, both_ways, and_parts}
+use Rattle.std.proofs.lemmas.Bool.{cases_Bool, both_ways, and_parts, false_from_ne_true}
 use Rattle.finger_list.specs.declared.entry.Entry.{Entry}
 use Rattle.finger_list.specs.declared.walk.Way.{Way}
 use Rattle.finger_list.specs.Entries.{in_use, height_at, heights, held_in, Positive}
@@ -10,7 +10,7 @@ use Rattle.finger_list.specs.Linking.{not_past, InOrder, StandsAt}
 use Rattle.finger_list.specs.Walking.{NotOver, NotUnder, part, one, many, weighs, Climbed, Descended, Moved}
 use Rattle.counters.specs.Held.{tally, has_level, distinct, above, up_to}
 use Rattle.heights.specs.Order.{Preorder, level}
-use Rattle.counters.proofs.Preorders.{never_true, reflexive, other_way, level_self}
+use Rattle.counters.proofs.Preorders.{reflexive, other_way, level_self}
 use Rattle.counters.proofs.Tallies.{tally_always}
 use Rattle.finger_list.proofs.Weights.{weighs_nothing, weighs_same, length_used, at_used}
 use Rattle.finger_list.proofs.Chains.{np_at, np_end}
@@ -131,7 +131,7 @@ at_under {le = le} o es used p h i low at ph d nz =
 pub at_over : {X : Type 0} {le : X → X → Bool} (o : Preorder le)
     (es : List (Entry X)) (used : ℕ) (p h : X) (i : ℕ) → StandsAt le es used p i → le p h ≡ false → NotUnder le es used i h
 at_over {le = le} o es used p h i at ph d j h₁ h₂ off =
-    never_true _ (λ q. both_ways _ (at d j h₁ h₂ ∙ off) (o.transitive _ h p q (other_way o p h ph)))
+    false_from_ne_true _ (λ q. both_ways _ (at d j h₁ h₂ ∙ off) (o.transitive _ h p q (other_way o p h ph)))
 
 -- the different held heights are the used entries
 pub distinct_held : {X : Type 0} {le : X → X → Bool} (o : Preorder le) (t : X → Bool) (es : List (Entry X)) (used : ℕ)
@@ -144,7 +144,7 @@ distinct_held {X} {le} o t es used room s pos =
     let ej = at_used es used j d (omega arith) in
     ap (λ (x : Entry X). level le x.height (get_or (in_use es used) i d).height) ej
     ∙ ap (λ (x : Entry X). level le (get_or es (1 + j) d).height x.height) ei
-    ∙ never_true _ (λ q.
+    ∙ false_from_ne_true _ (λ q.
     let b = and_parts (le (height_at es d (1 + j)) (height_at es d (1 + i))) (le (height_at es d (1 + i)) (height_at es d (1 + j))) q in
     let z : 1 + j ≡ 1 + i = (s d).apart (1 + j) (1 + i) (omega arith) (omega arith) (omega arith) (omega arith) b.0 b.1 in
     omega arith))

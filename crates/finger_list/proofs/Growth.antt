@@ -1,11 +1,11 @@
 -- One height more: a new entry, or one more of a level entry.
-use Rattle.std.proofs.Common.{◌≡◌, ℕ, zero, suc, ◌+◌, ◌-◌, ◌<◌, ◌≤◌, Bool, true, false, cond, ◌⊎◌, List, [], ◌∷◌, length, get_or, drop, set, sum_by, sym, refl, ap, ◌∙◌, subst, inl, inr, ⊎_elim, arith}
-use Rattle.std.proofs.lemmas.List.{get_or_read, get_or-set_same, get_or-set_other, length-set, length-drop, get_or-drop}
+use Rattle.std.proofs.Common.{◌≡◌, ℕ, suc, ◌+◌, ◌-◌, ◌<◌, ◌≤◌, Bool, true, false, cond, ◌⊎◌, List, [], ◌∷◌, length, get_or, drop, sum_by, sym, refl, ap, ◌∙◌, subst, inl, inr, ⊎_elim, arith}
+use Rattle.std.proofs.lemmas.List.{get_or_default, length-set, length-drop, get_or-drop}
 use Rattle.std.proofs.lemmas.List.Sums.{sum_by-cons, sum_by_more, get_or-le-sum_by}
 use Rattle.std.proofs.lemmas.Bool.{cases_Bool, cases_eq, eq-eqb, ne_eqb}
 use Rattle.finger_list.specs.declared.entry.Entry.{Entry}
 use Rattle.finger_list.specs.declared.finger.Finger.{Finger}
-use Rattle.finger_list.specs.Entries.{in_use, height_at, number_at, next_at, prev_at, held_in}
+use Rattle.finger_list.specs.Entries.{in_use, height_at, number_at, next_at, held_in}
 use Rattle.finger_list.specs.Linking.{Linked, Stands, StandsAt}
 use Rattle.finger_list.specs.Writing.{Inserted}
 use Rattle.finger_list.specs.Hands.{followed_link}
@@ -17,7 +17,8 @@ use Rattle.finger_list.proofs.Weights.{length_used, at_used, by_link}
 use Rattle.finger_list.proofs.Chains.{np_at}
 use Rattle.finger_list.proofs.Distances.{tally_heights, length_held}
 use Rattle.finger_list.proofs.Rewriting.{inserted_order}
-use Rattle.finger_list.proofs.Standing.{stands_stay, stands_go, Renamed, chain_rename, stands_rename}
+use Rattle.finger_list.proofs.Renumbering.{renumbered, renumbered_positive, renumbered_linked, renumbered_order, renumbered_stands, renumbered_weighs, one_more}
+use Rattle.finger_list.proofs.Standing.{stands_stay, stands_go}
 
 -- lists that weigh alike entry by entry weigh alike
 pub sum_alike : {X : Type 0} (f : X → ℕ) (us vs : List X) → length us ≡ length vs
@@ -103,87 +104,6 @@ grown_new {X} {le} o es fs used a h l low room lf w new =
           (cases_eq i a);
     }
 
--- an entry with one more height
-abbrev pub more : {X : Type 0} → Entry X → Entry X
-more e = record { height = e.height; number = e.number + 1; next = e.next; prev = e.prev }
-
--- one more of an entry changes its number alone
-pub as_was : {X : Type 0} (es : List (Entry X)) (a : ℕ) (e : Entry X) → a < length es → e ≡ get_or es a e → (d : Entry X) (j : ℕ)
-    → (height_at (set es a (more e)) d j ≡ height_at es d j) × (next_at (set es a (more e)) d j ≡ next_at es d j) × (prev_at (set es a (more e)) d j ≡ prev_at es d j)
-    × (number_at es d j ≤ number_at (set es a (more e)) d j)
-as_was {X} es a e lt is d j = ⊎_elim
-    (λ (q : j ≡ a).
-    let w : get_or (set es a (more e)) j d ≡ more e = ap (λ m. get_or (set es a (more e)) m d) q ∙ get_or-set_same es a (more e) d lt in
-    let o : get_or es j d ≡ e = ap (λ m. get_or es m d) q ∙ sym (get_or_read es a e lt is d) in (
-      ap (λ (x : Entry X). x.height) w ∙ sym (ap (λ (x : Entry X). x.height) o),
-      ap (λ (x : Entry X). x.next) w ∙ sym (ap (λ (x : Entry X). x.next) o),
-      ap (λ (x : Entry X). x.prev) w ∙ sym (ap (λ (x : Entry X). x.prev) o),
-      omega (arith, ap (λ (x : Entry X). x.number) w, ap (λ (x : Entry X). x.number) o),
-    ))
-    (λ (ne : j ≡ a → ⊥).
-    let w = get_or-set_other es a j (more e) d ne in
-    (ap (λ (x : Entry X). x.height) w, ap (λ (x : Entry X). x.next) w, ap (λ (x : Entry X). x.prev) w, omega (arith, ap (λ (x : Entry X). x.number) w)))
-    (cases_eq j a)
-
--- lists that weigh alike but for one entry
-pub sum_bump : {X : Type 0} (f : X → ℕ) (us vs : List X) (n x : ℕ) → length us ≡ length vs → n < length us
-    → ((d : X) → f (get_or vs n d) ≡ f (get_or us n d) + x)
-    → ((k : ℕ) (d : X) → k < length us → (k ≡ n → ⊥) → f (get_or vs k d) ≡ f (get_or us k d)) → sum_by f vs ≡ sum_by f us + x
-sum_bump f [] vs n x same lt at off = absurd (omega arith)
-sum_bump f (u ∷ us) [] n x same lt at off = absurd (omega arith)
-sum_bump f (u ∷ us) (v ∷ vs) zero x same lt at off =
-    omega (arith, sum_by-cons f u us, sum_by-cons f v vs, at u, sum_alike f vs us (omega arith) (λ k d l. off (suc k) d (omega arith) (λ q. omega arith)))
-sum_bump f (u ∷ us) (v ∷ vs) (suc n) x same lt at off =
-    omega (
-      arith,
-      sum_by-cons f u us,
-      sum_by-cons f v vs,
-      off 0 u (omega arith) (λ q. omega arith),
-      sum_bump f us vs n x (omega arith) (omega arith) at (λ k d l ne. off (suc k) d (omega arith) (λ q. ne (omega arith))),
-    )
-
--- one more of an entry weighs one of its height
-pub bumped_weighs : {X : Type 0} (es : List (Entry X)) (used a : ℕ) (e : Entry X) → used ≤ length es - 1 → 0 < a → a ≤ used → e ≡ get_or es a e
-    → (t : X → Bool) → weighs t many (in_use (set es a (more e)) used) ≡ cond (t e.height) 1 0 + weighs t many (in_use es used)
-bumped_weighs {X} es used a e room pos low is t =
-    let fs = set es a (more e) in
-    let f : Entry X → ℕ = part t many in
-    let size = length-set es a (more e) in
-    let n₁ = length_used es used room in
-    let n₂ = length_used fs used (omega (arith, size)) in
-    let lt : a < length es = omega arith in
-    let two : (b : Bool) → ◌≡◌ {A = ℕ} (cond b (e.number + 1) 0) (cond b e.number 0 + cond b 1 0)
-    = λ b. elim b as (λ v. ◌≡◌ {A = ℕ} (cond v (e.number + 1) 0) (cond v e.number 0 + cond v 1 0)) [ true ↦ refl | false ↦ omega arith ] in
-    let x : ℕ = cond (t e.height) 1 0 in
-    let s : sum_by f (in_use fs used) ≡ sum_by f (in_use es used) + x
-    = sum_bump f (in_use es used) (in_use fs used) (a - 1) x (n₁ ∙ sym n₂) (omega arith)
-    (λ d. ap f (by_link fs used a d pos low ∙ get_or-set_same es a (more e) d lt) ∙ two (t e.height)
-    ∙ ap (λ (y : Entry X). f y + x) (get_or_read es a e lt is d ∙ sym (by_link es used a d pos low)))
-    (λ k d l ne. ap f (at_used fs used k d (omega arith) ∙ get_or-set_other es a (1 + k) (more e) d (λ q. ne (omega arith)) ∙ sym (at_used es used k d (omega arith)))) in
-    omega (arith, s)
-
--- one more of an entry keeps the links
-pub bumped_linked : {X : Type 0} (es : List (Entry X)) (used a : ℕ) (e : Entry X) → Linked es used → a ≤ used → a < length es → e ≡ get_or es a e → e.number < 1048576
-    → Linked (set es a (more e)) used
-bumped_linked {X} es used a e l low lt is small =
-    let fs = set es a (more e) in
-    let size = length-set es a (more e) in (
-      omega (arith, size, l.0),
-      l.1,
-      λ i d lo il.
-          let t = l.2 i d lo (omega (arith, size)) in
-          let s = as_was es a e lt is d in (
-            omega (arith, (s i).1, t.0),
-            omega (arith, (s i).2, t.1),
-            ⊎_elim
-                (λ (q : i ≡ a). subst (λ m. (get_or fs m d).number ≤ 1048576) (sym q) (omega (arith, ap (λ (x : Entry X). x.number) (get_or-set_same es a (more e) d lt))))
-                (λ (ne : i ≡ a → ⊥). omega (arith, ap (λ (x : Entry X). x.number) (get_or-set_other es a i (more e) d ne), t.2))
-                (cases_eq i a),
-            ap (next_at fs d) (s i).2 ∙ (s (prev_at es d i)).1 ∙ t.3,
-            ap (prev_at fs d) (s i).1 ∙ (s (next_at es d i)).2 ∙ t.4,
-          ),
-    )
-
 -- a finger stays when the height that came stands where it stood
 same_link : {X : Type 0} (le : X → X → Bool) (f : Finger X) (a : ℕ) (h : X) → f.link ≡ followed_link le f a a h
 same_link {X} le f a h =
@@ -195,44 +115,52 @@ same_link {X} le f a h =
     (λ (ne : i ≡ a → ⊥). sym (ap (λ b. cond b (cond (le h f.height) a i) i) (ne_eqb i a ne)))
     (cases_eq i a)
 
+-- an entry is level with h where h stands at it and is not higher
+pub level_there : {X : Type 0} {le : X → X → Bool} (o : Preorder le)
+    (es : List (Entry X)) (used a : ℕ) (h : X) (d : Entry X) → 0 < a → a ≤ used → StandsAt le es used h a → le (height_at es d a) h ≡ true
+level_there {le = le} o es used a h d pos low at =
+    at d a pos low ∙ np_at le (height_at es d) a (height_at es d a) (λ z. omega arith) ∙ reflexive o (height_at es d a)
+
 -- what one more of a level entry does
 pub grown_bump : {X : Type 0} {le : X → X → Bool} (o : Preorder le)
-    (es : List (Entry X)) (used a : ℕ) (h : X) (e : Entry X) → Linked es used → 0 < a → a ≤ used → e ≡ get_or es a e → e.number < 1048576
-    → le h e.height ≡ true → Grown le es (set es a (more e)) used a h (record { used = used; link = a })
-grown_bump {X} {le} o es used a h e l pos low is small up =
-    let fs = set es a (more e) in
+    (es : List (Entry X)) (used a : ℕ) (h : X) (e d : Entry X) → Linked es used → 0 < a → a ≤ used → number_at es d a < 1048576
+    → le h (height_at es e a) ≡ true → Grown le es (renumbered es e a (number_at es d a + 1)) used a h (record { used = used; link = a })
+grown_bump {X} {le} o es used a h e d l pos low small up =
+    let n = number_at es d a in
+    let fs = renumbered es e a (n + 1) in
     let lt : a < length es = omega (arith, l.0) in
-    let s = as_was es a e lt is in
-    let named : (d : Entry X) → Renamed (height_at es d) (λ j. j ≤ used) (height_at fs d) (λ j. j ≤ used) (λ j. j)
-    = λ d. record { inside = λ j q. q; end = λ j _ q. q; ends = λ j _ q. q; one = λ i j _ _ q. q; same = λ j _. (s d j).0 } in
-    let keeps : (p : X) (i : ℕ) → i ≤ used → StandsAt le es used p i → StandsAt le fs used p i
-    = λ p i lo at d. stands_rename le (height_at es d) (λ j. j ≤ used) (height_at fs d) (λ j. j ≤ used) (λ j. j) (named d) p i lo (at d) in
+    let same : number_at es e a ≡ n = ap (λ (x : Entry X). x.number) (get_or_default es a e d lt) in
+    let w = renumbered_weighs es used e a (n + 1) l.0 pos low in
+    let keeps = renumbered_stands le es used e a (n + 1) in
     record {
-      size = length-set es a (more e);
+      size = length-set es a _;
       more = omega arith;
       inside = low;
-      linked = bumped_linked es used a e l low lt is small;
-      positive = λ ps i d p lo. omega (arith, ps i d p lo, (s d i).3);
-      all = omega (arith, bumped_weighs es used a e l.0 pos low is (λ _. true), length_held fs used, length_held es used);
+      linked = renumbered_linked es used e a (n + 1) lt (omega arith) l;
+      positive = renumbered_positive es used e a (n + 1) lt (omega arith);
+      all = omega (arith, w (λ _. true), same, length_held fs used, length_held es used);
       held = λ so at. record {
         tallies = λ p b.
-            let he : height_at es e a ≡ e.height = sym (ap (λ (x : Entry X). x.height) is) in
-            let down : le e.height h ≡ true
-            = sym (ap (λ y. le y h) he) ∙ at e a pos low ∙ np_at le (height_at es e) a (height_at es e a) (λ z. omega arith) ∙ reflexive o (height_at es e a) in
             let g : Bool → ℕ = λ v. cond v 1 0 in
-            omega (arith, bumped_weighs es used a e l.0 pos low is p, ap g (b e.height h down up), tally_heights p (in_use fs used), tally_heights p (in_use es used));
+            omega (
+              arith,
+              w p,
+              ap (λ m. cond (p (height_at es e a)) m 0) same,
+              one_more (p (height_at es e a)) n,
+              ap g (b (height_at es e a) h (level_there o es used a h e pos low at) up),
+              tally_heights p (in_use fs used),
+              tally_heights p (in_use es used),
+            );
       };
-      order = λ so at d.
-          chain_rename le (height_at es d) (next_at es d) (λ j. j ≤ used) (height_at fs d) (next_at fs d) (λ j. j ≤ used) (λ j. j) (named d)
-          (λ j lo. omega (arith, (s d j).1, (l.2 j d lo (omega (arith, l.0))).0)) (λ j _. (s d j).1) (so d);
+      order = λ so at. renumbered_order le es used e a (n + 1) lt l so;
       here = λ so at. keeps h a low at;
       fingers = λ so at f lo fa. subst (λ m. StandsAt le fs used f.height m) (same_link le f a h) (keeps f.height f.link lo fa);
     }
 
 -- an entry's number is at most the number of heights
-pub number_small : {X : Type 0} (es : List (Entry X)) (used a : ℕ) (e : Entry X) → used ≤ length es - 1 → 0 < a → a ≤ used → e ≡ get_or es a e
-    → e.number ≤ length (held_in es used)
-number_small {X} es used a e room pos low is =
+pub number_small : {X : Type 0} (es : List (Entry X)) (used a : ℕ) (d : Entry X) → used ≤ length es - 1 → 0 < a → a ≤ used
+    → number_at es d a ≤ length (held_in es used)
+number_small {X} es used a d room pos low =
     let f : Entry X → ℕ = part (λ _. true) many in
     let n = length_used es used room in
-    omega (arith, get_or-le-sum_by f (in_use es used) (a - 1) e (omega (arith, n)), ap f (by_link es used a e pos low ∙ sym is), length_held es used)
+    omega (arith, get_or-le-sum_by f (in_use es used) (a - 1) d (omega (arith, n)), ap f (by_link es used a d pos low), length_held es used)

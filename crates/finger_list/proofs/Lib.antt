@@ -4,6 +4,7 @@ pub mod Adjacency
 pub mod Rewriting
 pub mod Distances
 pub mod Standing
+pub mod Renumbering
 pub mod Growth
 pub mod Unlinking
 pub mod Shrinking

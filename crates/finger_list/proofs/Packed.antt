@@ -1,37 +1,26 @@
 -- What a change of the list does to what a finger list shows.
-use Rattle.std.proofs.Common.{◌≡◌, ℕ, suc, ◌+◌, ◌-◌, ◌<◌, ◌≤◌, min, Bool, true, false, cond, eqb, List, [], ◌∷◌, length, get_or, Some, None, Option, sym, refl, ap, subst, arith}
+use Rattle.std.proofs.Common.{◌≡◌, ℕ, suc, ◌+◌, ◌-◌, ◌<◌, ◌≤◌, min, Bool, true, false, cond, eqb, List, [], ◌∷◌, length, get_or, Some, None, Option, option_map, MatchOption, IsSomeAnd, sym, refl, ap, subst, arith}
+use Rattle.std.specs.Option.{option_map_or}
 use Rattle.std.proofs.lemmas.List.Sums.{sum_by-cons}
 use Rattle.std.proofs.lemmas.Bool.{cond_both}
 use Rattle.heights.specs.Order.{Preorder}
 use Rattle.counters.specs.Held.{up_to, level_with}
-use Rattle.counters.specs.Calls.{View, fingers, begun, Did, Steps, put, take, ask, rule_after, places_of, mileage_after}
+use Rattle.counters.specs.Calls.{Did, Steps, put, take, ask, rule_after, places_of, mileage_after}
 use Rattle.counters.proofs.Preorders.{blind_up_to}
 use Rattle.counters.proofs.Tallies.{same_refl, held_level, tally_le_length}
 use Rattle.finger_list.specs.declared.change.Spot.{Spot}
 use Rattle.finger_list.specs.declared.entry.Entry.{Entry}
 use Rattle.finger_list.specs.declared.finger.Finger.{Finger}
 use Rattle.finger_list.specs.declared.finger.Fingers.{Fingers}
-use Rattle.finger_list.specs.declared.finger.Hand.{Hand}
-use Rattle.finger_list.specs.declared.finger.Hand.TheVariants.{Put, Take, Ask}
 use Rattle.finger_list.specs.declared.walk.Way.{Way}
 use Rattle.finger_list.specs.Entries.{in_use, number_at, held_in, Positive}
-use Rattle.finger_list.specs.Linking.{Linked, InOrder, StandsAt}
-use Rattle.finger_list.specs.Hands.{finger_of, link_of, count_of, Stood, Counted, followed_link, left_link, after_put, after_take, after_ask, counted_up}
+use Rattle.finger_list.specs.Linking.{Linked, StandsAt}
+use Rattle.finger_list.specs.Hands.{LinksIn, count_of, AllStand, Counted, followed_link, left_link, after_put, after_take, after_ask, counted_up}
 use Rattle.finger_list.specs.Walking.{part, many, weighs, Arrived}
 use Rattle.finger_list.specs.Changes.{Grown, Shrunk}
 use Rattle.finger_list.specs.Views.{rule_of, shown, Inside, Back, Forth, Tidy, Fit}
 use Rattle.finger_list.proofs.Weights.{length_used, at_used}
 use Rattle.finger_list.proofs.Distances.{length_held}
-
--- the links of a tidy memory, in one fact
-pub linked_of : {X : Type 0} (es : List (Entry X)) (used : ℕ) → Inside es used → Back es used → Forth es used → Linked es used
-linked_of es used a b f = (
-  a.0,
-  a.1,
-  λ i d lo lt.
-      let m : i < min (used + 1) (length es) = omega arith in
-      (a.2 i d m, a.3 i d m, a.4 i d m, b i d m, f i d m),
-)
 
 -- the links of a tidy memory, fact by fact
 pub inside_of : {X : Type 0} (es : List (Entry X)) (used : ℕ) → Linked es used → Inside es used
@@ -51,10 +40,6 @@ back_of es used l i d m = (l.2 i d (omega arith) (omega arith)).3
 pub forth_of : {X : Type 0} (es : List (Entry X)) (used : ℕ) → Linked es used → Forth es used
 forth_of es used l i d m = (l.2 i d (omega arith) (omega arith)).4
 
--- the links of a tidy memory
-pub tidy_linked : {X : Type 0} (es : List (Entry X)) (used held : ℕ) (f : Option (Fingers X)) → Tidy es used held f → Linked es used
-tidy_linked es used held f t = linked_of es used t.0 t.1 t.2
-
 -- the numbers of a tidy memory
 pub tidy_positive : {X : Type 0} (es : List (Entry X)) (used held : ℕ) (f : Option (Fingers X)) → Tidy es used held f → Positive es used
 tidy_positive es used held f t i d pos lo =
@@ -63,7 +48,7 @@ tidy_positive es used held f t i d pos lo =
 
 -- a tidy memory from its parts
 pub tidy_of : {X : Type 0} (es : List (Entry X)) (used held : ℕ) (f : Option (Fingers X)) → Linked es used → Positive es used
-    → held ≡ length (held_in es used) → held ≤ places_of (length es) → ((hand : Hand) → link_of (finger_of f hand) ≤ used) → count_of f ≤ held
+    → held ≡ length (held_in es used) → held ≤ places_of (length es) → LinksIn f used → count_of f ≤ held
     → Tidy es used held f
 tidy_of es used held f l pos is few ins small =
     (inside_of es used l, back_of es used l, forth_of es used l, ((λ i d lt. pos (i + 1) d (omega arith) (omega arith)), is, few, ins, small))
@@ -106,14 +91,13 @@ followed_in le f from to n h a b =
 
 -- after a put the fingers lead to entries in use
 links_put : {X : Type 0} (le : X → X → Bool) (f : Option (Fingers X)) (from to used n : ℕ) (h : X) → used ≤ n → to ≤ n
-    → ((hand : Hand) → link_of (finger_of f hand) ≤ used) → (hand : Hand) → link_of (finger_of (after_put le f from to h) hand) ≤ n
-links_put le None from to used n h more low ins hand = omega arith
-links_put le (Some f) from to used n h more low ins Put = low
-links_put le (Some f) from to used n h more low ins Take = followed_in le f.take from to n h (omega (arith, ins Take)) low
-links_put le (Some f) from to used n h more low ins Ask = followed_in le f.ask from to n h (omega (arith, ins Ask)) low
+    → LinksIn f used → LinksIn (option_map (λ g. after_put le g from to h) f) n
+links_put le None from to used n h more low ins = (omega arith, omega arith, omega arith)
+links_put le (Some f) from to used n h more low ins =
+    (low, followed_in le f.take from to n h (omega arith) low, followed_in le f.ask from to n h (omega arith) low)
 
 -- after a put at most one more is counted
-count_put : {X : Type 0} (le : X → X → Bool) (f : Option (Fingers X)) (from to k : ℕ) (h : X) → count_of f ≤ k → count_of (after_put le f from to h) ≤ k + 1
+count_put : {X : Type 0} (le : X → X → Bool) (f : Option (Fingers X)) (from to k : ℕ) (h : X) → count_of f ≤ k → count_of (option_map (λ g. after_put le g from to h) f) ≤ k + 1
 count_put le None from to k h c = omega arith
 count_put le (Some f) from to k h c =
     cond_both (le h f.ask.height) (f.count + 1) f.count (λ m. m ≤ k + 1) (λ _. omega arith) (λ _. omega arith)
@@ -121,9 +105,9 @@ count_put le (Some f) from to k h c =
 -- after a put the memory is tidy
 pub tidy_put : {X : Type 0} (le : X → X → Bool) (es gs : List (Entry X)) (used held from : ℕ) (f : Option (Fingers X)) (h : X) (spot : Spot)
     → Tidy es used held f → held < places_of (length es) → Grown le es gs used from h spot
-    → Tidy gs spot.used (held + 1) (after_put le f from spot.link h)
+    → Tidy gs spot.used (held + 1) (option_map (λ g. after_put le g from spot.link h) f)
 tidy_put le es gs used held from f h spot t room w =
-    tidy_of gs spot.used (held + 1) (after_put le f from spot.link h)
+    tidy_of gs spot.used (held + 1) (option_map (λ g. after_put le g from spot.link h) f)
     w.linked
     (w.positive (tidy_positive es used held f t))
     (omega (arith, w.all, t.3.1))
@@ -138,18 +122,21 @@ count_more false c u v e w = omega arith
 
 -- after a put each finger's height stands at its link
 stands_put : {X : Type 0} {le : X → X → Bool} (es gs : List (Entry X)) (used from : ℕ) (f : Fingers X) (h : X) (spot : Spot)
-    → ((hand : Hand) → link_of (finger_of (Some f) hand) ≤ used) → StandsAt le es used h from → Grown le es gs used from h spot → Fit le es used (Some f)
-    → (hand : Hand) → Stood le gs spot.used (finger_of (after_put le (Some f) from spot.link h) hand)
-stands_put es gs used from f h spot ins at w fit Put = w.here fit.order at
-stands_put es gs used from f h spot ins at w fit Take = w.fingers fit.order at f.take (ins Take) (fit.stands Take)
-stands_put es gs used from f h spot ins at w fit Ask = w.fingers fit.order at f.ask (ins Ask) (fit.stands Ask)
+    → LinksIn (Some f) used → StandsAt le es used h from → Grown le es gs used from h spot → Fit le es used (Some f)
+    → AllStand le gs spot.used (Some (after_put le f from spot.link h))
+stands_put es gs used from f h spot ins at w fit =
+    record {
+      put = w.here fit.order at;
+      take = w.fingers fit.order at f.take ins.1 fit.stands.take;
+      ask = w.fingers fit.order at f.ask ins.2 fit.stands.ask;
+    }
 
 -- after a put the fingers stand where they should
 pub fit_put : {X : Type 0} {le : X → X → Bool} (o : Preorder le) (es gs : List (Entry X)) (used from : ℕ) (f : Option (Fingers X)) (h : X) (spot : Spot)
-    → ((hand : Hand) → link_of (finger_of f hand) ≤ used) → StandsAt le es used h from → Grown le es gs used from h spot → Fit le es used f
-    → Fit le gs spot.used (after_put le f from spot.link h)
+    → LinksIn f used → StandsAt le es used h from → Grown le es gs used from h spot → Fit le es used f
+    → Fit le gs spot.used (option_map (λ g. after_put le g from spot.link h) f)
 fit_put o es gs used from None h spot ins at w fit =
-    record { order = w.order fit.order at; stands = λ hand. tt; counted = tt }
+    record { order = w.order fit.order at; stands = record { put = tt; take = tt; ask = tt }; counted = tt }
 fit_put {le = le} o es gs used from (Some f) h spot ins at w fit =
     let p = f.ask.height in
     record {
@@ -160,26 +147,26 @@ fit_put {le = le} o es gs used from (Some f) h spot ins at w fit =
     }
 
 -- after a put the put finger stands at its height
-rule_put : {X : Type 0} (le : X → X → Bool) (f : Option (Fingers X)) (from to : ℕ) (h : X) → rule_of (after_put le f from to h) ≡ rule_after (rule_of f) (put h)
+rule_put : {X : Type 0} (le : X → X → Bool) (f : Option (Fingers X)) (from to : ℕ) (h : X) → rule_of (option_map (λ g. after_put le g from to h) f) ≡ rule_after (rule_of f) (put h)
 rule_put le None from to h = refl
 rule_put le (Some f) from to h = refl
 
 -- the steps of a put are those of its finger
 exact_put : {X : Type 0} (le : X → X → Bool) (es : List (Entry X)) (used : ℕ) (f : Option (Fingers X)) (h : X) (way : Way)
-    → Arrived le es used h way (finger_of f Put) → Steps le (rule_of f) (held_in es used) (put h) way.steps
+    → Arrived le es used h way (option_map (λ g. g.put) f) → Steps le (rule_of f) (held_in es used) (put h) way.steps
 exact_put le es used None h way a = tt
 exact_put le es used (Some f) h way a = a.steps
 
 -- what a put does
 pub did_put : {X : Type 0} (le : X → X → Bool) (es gs : List (Entry X)) (used held m : ℕ) (f : Option (Fingers X)) (h : X) (way : Way) (spot : Spot)
     → Tidy es used held f → held < places_of (length es) → way.steps ≤ used → Grown le es gs used way.link h spot → Fit le es used f
-    → Arrived le es used h way (finger_of f Put)
+    → Arrived le es used h way (option_map (λ g. g.put) f)
     → (length (held_in es used) < places_of (length es))
-    × Did le (shown es used m f) (put h) way.steps (shown gs spot.used (mileage_after m way.steps) (after_put le f way.link spot.link h))
+    × Did le (shown es used m f) (put h) way.steps (shown gs spot.used (mileage_after m way.steps) (option_map (λ g. after_put le g way.link spot.link h) f))
 did_put le es gs used held m f h way spot t room low w fit a = (
   omega (arith, t.3.1),
   record {
-    held = w.held fit.order (arrived_at le es used h way (finger_of f Put) a);
+    held = w.held fit.order (arrived_at le es used h way (option_map (λ g. g.put) f) a);
     places = ap places_of w.size;
     mileage = refl;
     rule = rule_put le f way.link spot.link h;
@@ -191,23 +178,21 @@ did_put le es gs used held m f h way spot t room low w fit a = (
 -- after a take the fingers lead to entries in use
 links_take : {X : Type 0} (le : X → X → Bool) (f : Option (Fingers X)) (at : ℕ) (spot : Spot) (used held : ℕ) (h : X) → at ≤ used
     → ((i : ℕ) → i ≤ used → left_link at spot used i ≤ spot.used)
-    → ((hand : Hand) → link_of (finger_of f hand) ≤ used) → (hand : Hand) → link_of (finger_of (after_take le f at spot used h held) hand) ≤ spot.used
-links_take le None at spot used held h low to ins hand = omega arith
-links_take le (Some f) at spot used held h low to ins Put = to f.put.link (ins Put)
-links_take le (Some f) at spot used held h low to ins Take = to at low
-links_take le (Some f) at spot used held h low to ins Ask = to f.ask.link (ins Ask)
+    → LinksIn f used → LinksIn (option_map (λ g. after_take le g at spot used h held) f) spot.used
+links_take le None at spot used held h low to ins = (omega arith, omega arith, omega arith)
+links_take le (Some f) at spot used held h low to ins = (to f.put.link ins.0, to at low, to f.ask.link ins.2)
 
 -- after a take no more is counted than held
-count_take : {X : Type 0} (le : X → X → Bool) (f : Option (Fingers X)) (at : ℕ) (spot : Spot) (used held : ℕ) (h : X) → count_of (after_take le f at spot used h held) ≤ held
+count_take : {X : Type 0} (le : X → X → Bool) (f : Option (Fingers X)) (at : ℕ) (spot : Spot) (used held : ℕ) (h : X) → count_of (option_map (λ g. after_take le g at spot used h held) f) ≤ held
 count_take le None at spot used held h = omega arith
 count_take le (Some f) at spot used held h = omega arith
 
 -- after a take the memory is tidy
 pub tidy_take : {X : Type 0} (le : X → X → Bool) (es gs : List (Entry X)) (used held at : ℕ) (f : Option (Fingers X)) (h : X) (spot : Spot)
     → Tidy es used held f → at ≤ used → Shrunk le es gs used at h spot
-    → Tidy gs spot.used (held - 1) (after_take le f at spot used h (held - 1))
+    → Tidy gs spot.used (held - 1) (option_map (λ g. after_take le g at spot used h (held - 1)) f)
 tidy_take le es gs used held at f h spot t low w =
-    tidy_of gs spot.used (held - 1) (after_take le f at spot used h (held - 1))
+    tidy_of gs spot.used (held - 1) (option_map (λ g. after_take le g at spot used h (held - 1)) f)
     w.linked
     w.positive
     (omega (arith, w.all, t.3.1))
@@ -222,18 +207,21 @@ count_less false c u v k e w l = omega arith
 
 -- after a take each finger's height stands at its link
 stands_take : {X : Type 0} {le : X → X → Bool} (es gs : List (Entry X)) (used held at : ℕ) (f : Fingers X) (h : X) (spot : Spot)
-    → ((hand : Hand) → link_of (finger_of (Some f) hand) ≤ used) → at ≤ used → StandsAt le es used h at → Shrunk le es gs used at h spot → Fit le es used (Some f)
-    → (hand : Hand) → Stood le gs spot.used (finger_of (after_take le (Some f) at spot used h held) hand)
-stands_take es gs used held at f h spot ins low st w fit Put = w.fingers fit.order f.put.height f.put.link (ins Put) (fit.stands Put)
-stands_take es gs used held at f h spot ins low st w fit Take = w.fingers fit.order h at low st
-stands_take es gs used held at f h spot ins low st w fit Ask = w.fingers fit.order f.ask.height f.ask.link (ins Ask) (fit.stands Ask)
+    → LinksIn (Some f) used → at ≤ used → StandsAt le es used h at → Shrunk le es gs used at h spot → Fit le es used (Some f)
+    → AllStand le gs spot.used (Some (after_take le f at spot used h held))
+stands_take es gs used held at f h spot ins low st w fit =
+    record {
+      put = w.fingers fit.order f.put.height f.put.link ins.0 fit.stands.put;
+      take = w.fingers fit.order h at low st;
+      ask = w.fingers fit.order f.ask.height f.ask.link ins.2 fit.stands.ask;
+    }
 
 -- after a take the fingers stand where they should
 pub fit_take : {X : Type 0} {le : X → X → Bool} (o : Preorder le) (es gs : List (Entry X)) (used held at : ℕ) (f : Option (Fingers X)) (h : X) (spot : Spot)
     → Tidy es used held f → at ≤ used → StandsAt le es used h at → Shrunk le es gs used at h spot → Fit le es used f
-    → Fit le gs spot.used (after_take le f at spot used h (held - 1))
+    → Fit le gs spot.used (option_map (λ g. after_take le g at spot used h (held - 1)) f)
 fit_take o es gs used held at None h spot t low st w fit =
-    record { order = w.order fit.order; stands = λ hand. tt; counted = tt }
+    record { order = w.order fit.order; stands = record { put = tt; take = tt; ask = tt }; counted = tt }
 fit_take {le = le} o es gs used held at (Some f) h spot t low st w fit =
     let p = f.ask.height in
     record {
@@ -246,24 +234,24 @@ fit_take {le = le} o es gs used held at (Some f) h spot t low st w fit =
 
 -- after a take the take finger stands at its height
 rule_take : {X : Type 0} (le : X → X → Bool) (f : Option (Fingers X)) (at : ℕ) (spot : Spot) (used held : ℕ) (h : X)
-    → rule_of (after_take le f at spot used h held) ≡ rule_after (rule_of f) (take h)
+    → rule_of (option_map (λ g. after_take le g at spot used h held) f) ≡ rule_after (rule_of f) (take h)
 rule_take le None at spot used held h = refl
 rule_take le (Some f) at spot used held h = refl
 
 -- the steps of a take are those of its finger
 exact_take : {X : Type 0} (le : X → X → Bool) (es : List (Entry X)) (used : ℕ) (f : Option (Fingers X)) (h : X) (way : Way)
-    → Arrived le es used h way (finger_of f Take) → Steps le (rule_of f) (held_in es used) (take h) way.steps
+    → Arrived le es used h way (option_map (λ g. g.take) f) → Steps le (rule_of f) (held_in es used) (take h) way.steps
 exact_take le es used None h way a = tt
 exact_take le es used (Some f) h way a = a.steps
 
 -- what a take does
 pub did_take : {X : Type 0} {le : X → X → Bool} (o : Preorder le) (es gs : List (Entry X)) (used held m : ℕ) (f : Option (Fingers X)) (h : X) (way : Way) (spot : Spot)
     → Tidy es used held f → way.steps ≤ used → Shrunk le es gs used way.link h spot → Fit le es used f
-    → Arrived le es used h way (finger_of f Take)
+    → Arrived le es used h way (option_map (λ g. g.take) f)
     → (0 < level_with le (held_in es used) h)
-    × Did le (shown es used m f) (take h) way.steps (shown gs spot.used (mileage_after m way.steps) (after_take le f way.link spot used h (held - 1)))
+    × Did le (shown es used m f) (take h) way.steps (shown gs spot.used (mileage_after m way.steps) (option_map (λ g. after_take le g way.link spot used h (held - 1)) f))
 did_take {le = le} o es gs used held m f h way spot t low w fit a =
-    let s = w.held fit.order (arrived_at le es used h way (finger_of f Take) a) in (
+    let s = w.held fit.order (arrived_at le es used h way (option_map (λ g. g.take) f) a) in (
       held_level o (held_in es used) (held_in gs spot.used) h s,
       record {
         held = s;
@@ -275,30 +263,6 @@ did_take {le = le} o es gs used held m f h way spot t low w fit a =
       },
     )
 
--- after an ask the fingers lead to entries in use
-links_ask : {X : Type 0} (f : Option (Fingers X)) (link used count : ℕ) (h : X) → link ≤ used
-    → ((hand : Hand) → link_of (finger_of f hand) ≤ used) → (hand : Hand) → link_of (finger_of (after_ask f link h count) hand) ≤ used
-links_ask None link used count h low ins hand = omega arith
-links_ask (Some f) link used count h low ins Put = ins Put
-links_ask (Some f) link used count h low ins Take = ins Take
-links_ask (Some f) link used count h low ins Ask = low
-
--- no more is counted than held
-pub counted_le : {X : Type 0} (le : X → X → Bool) (f : Option (Fingers X)) (passed held : ℕ) (h : X) → counted_up le f passed h held ≤ held
-counted_le le None passed held h = omega arith
-counted_le le (Some f) passed held h = omega arith
-
--- after an ask no more is counted than held
-count_ask : {X : Type 0} (f : Option (Fingers X)) (link count held : ℕ) (h : X) → count ≤ held → count_of (after_ask f link h count) ≤ held
-count_ask None link count held h low = omega arith
-count_ask (Some f) link count held h low = low
-
--- after an ask the memory is tidy
-pub tidy_ask : {X : Type 0} (es : List (Entry X)) (used held link count : ℕ) (f : Option (Fingers X)) (h : X)
-    → Tidy es used held f → link ≤ used → count ≤ held → Tidy es used held (after_ask f link h count)
-tidy_ask es used held link count f h t low few =
-    (t.0, t.1, t.2, (t.3.0, t.3.1, t.3.2, links_ask f link used count h low t.3.3, count_ask f link count held h few))
-
 -- the count after a finger has gone up or down
 moved_up_to : (b : Bool) (c passed u v k : ℕ) → c ≡ u → (b ≡ true → v ≡ u + passed) → (b ≡ false → u ≡ v + passed) → v ≤ k
     → min (cond b (c + passed) (c - passed)) k ≡ v
@@ -307,8 +271,8 @@ moved_up_to false c passed u v k e up down l = omega (arith, down refl)
 
 -- the count is that of the heights that are not higher
 pub counted_right : {X : Type 0} (le : X → X → Bool) (es : List (Entry X)) (used held : ℕ) (f : Option (Fingers X)) (h : X) (way : Way)
-    → held ≡ length (held_in es used) → Counted le (held_in es used) f → Arrived le es used h way (finger_of f Ask)
-    → counted_up le f way.passed h held ≡ up_to le (held_in es used) h
+    → held ≡ length (held_in es used) → Counted le (held_in es used) f → Arrived le es used h way (option_map (λ g. g.ask) f)
+    → min (option_map_or (λ g. counted_up le g way.passed h) f way.passed) held ≡ up_to le (held_in es used) h
 counted_right le es used held None h way is c a = omega (arith, a.1, up_to_le le (held_in es used) h)
 counted_right le es used held (Some f) h way is c a =
     let p = f.ask.height in
@@ -318,33 +282,31 @@ counted_right le es used held (Some f) h way is c a =
 -- after an ask each finger's height stands at its link
 stands_ask : {X : Type 0} {le : X → X → Bool} (es : List (Entry X)) (used link count : ℕ) (f : Fingers X) (h : X)
     → StandsAt le es used h link → Fit le es used (Some f)
-    → (hand : Hand) → Stood le es used (finger_of (after_ask (Some f) link h count) hand)
-stands_ask es used link count f h st fit Put = fit.stands Put
-stands_ask es used link count f h st fit Take = fit.stands Take
-stands_ask es used link count f h st fit Ask = st
+    → AllStand le es used (Some (after_ask f link h count))
+stands_ask es used link count f h st fit = record { put = fit.stands.put; take = fit.stands.take; ask = st }
 
 -- after an ask the fingers stand where they should
 pub fit_ask : {X : Type 0} {le : X → X → Bool} (es : List (Entry X)) (used link count : ℕ) (f : Option (Fingers X)) (h : X)
-    → StandsAt le es used h link → count ≡ up_to le (held_in es used) h → Fit le es used f → Fit le es used (after_ask f link h count)
-fit_ask es used link count None h st is fit = record { order = fit.order; stands = λ hand. tt; counted = tt }
+    → StandsAt le es used h link → count ≡ up_to le (held_in es used) h → Fit le es used f → Fit le es used (option_map (λ g. after_ask g link h count) f)
+fit_ask es used link count None h st is fit = record { order = fit.order; stands = record { put = tt; take = tt; ask = tt }; counted = tt }
 fit_ask es used link count (Some f) h st is fit =
     record { order = fit.order; stands = stands_ask es used link count f h st fit; counted = is }
 
 -- after an ask the ask finger stands at its height
-rule_ask : {X : Type 0} (f : Option (Fingers X)) (link count : ℕ) (h : X) → rule_of (after_ask f link h count) ≡ rule_after (rule_of f) (ask h)
+rule_ask : {X : Type 0} (f : Option (Fingers X)) (link count : ℕ) (h : X) → rule_of (option_map (λ g. after_ask g link h count) f) ≡ rule_after (rule_of f) (ask h)
 rule_ask None link count h = refl
 rule_ask (Some f) link count h = refl
 
 -- the steps of an ask are those of its finger
 exact_ask : {X : Type 0} (le : X → X → Bool) (es : List (Entry X)) (used : ℕ) (f : Option (Fingers X)) (h : X) (way : Way)
-    → Arrived le es used h way (finger_of f Ask) → Steps le (rule_of f) (held_in es used) (ask h) way.steps
+    → Arrived le es used h way (option_map (λ g. g.ask) f) → Steps le (rule_of f) (held_in es used) (ask h) way.steps
 exact_ask le es used None h way a = tt
 exact_ask le es used (Some f) h way a = a.steps
 
 -- what an ask does
 pub did_ask : {X : Type 0} (le : X → X → Bool) (es : List (Entry X)) (used held m count : ℕ) (f : Option (Fingers X)) (h : X) (way : Way)
-    → Tidy es used held f → way.steps ≤ used → Arrived le es used h way (finger_of f Ask)
-    → Did le (shown es used m f) (ask h) way.steps (shown es used (mileage_after m way.steps) (after_ask f way.link h count))
+    → Tidy es used held f → way.steps ≤ used → Arrived le es used h way (option_map (λ g. g.ask) f)
+    → Did le (shown es used m f) (ask h) way.steps (shown es used (mileage_after m way.steps) (option_map (λ g. after_ask g way.link h count) f))
 did_ask le es used held m count f h way t low a =
     record {
       held = same_refl le (held_in es used);
@@ -355,43 +317,15 @@ did_ask le es used held m count f h way t low a =
       exact = exact_ask le es used f h way a;
     }
 
--- a memory of which no entry is in use is tidy
-pub tidy_none : {X : Type 0} (es : List (Entry X)) (f : Option (Fingers X)) → Linked es 0 → ((hand : Hand) → link_of (finger_of f hand) ≤ 0) → count_of f ≤ 0 → Tidy es 0 0 f
-tidy_none es f l ins small = tidy_of es 0 0 f l (λ i d p lo. absurd (omega arith)) refl (omega arith) ins small
+-- what `map` returns, where the closure does what a function says
+pub mapped : {A B : Type 0} {P : A → B → Type 0} (k : A → B) (o : Option A) (r : Option B) → MatchOption o (r ≡ None) (λ x. IsSomeAnd r (P x))
+    → ((x : A) (y : B) → P x y → y ≡ k x) → r ≡ option_map k o
+mapped k None r e same = e
+mapped k (Some x) None e same = absurd e
+mapped k (Some x) (Some y) e same = ap Some (same x y e)
 
--- no entries are in order
-none_in_order : {X : Type 0} (le : X → X → Bool) (es : List (Entry X)) → InOrder le es 0
-none_in_order le es d = record { up = λ i l j p lj. absurd (omega arith); apart = λ i j pi li pj lj q₁ q₂. absurd (omega arith) }
-
--- the fingers where begin lets them stand
-abbrev pub started : {X : Type 0} → X → X → Fingers X
-started first asked =
-    record { put = record { height = first; link = 0 }; take = record { height = first; link = 0 }; ask = record { height = asked; link = 0 }; count = 0 }
-
--- the fingers of begin lead to the end
-pub links_begun : {X : Type 0} (first asked : X) (hand : Hand) → link_of (finger_of (Some (started first asked)) hand) ≤ 0
-links_begun first asked Put = omega arith
-links_begun first asked Take = omega arith
-links_begun first asked Ask = omega arith
-
--- with no entry in use each height stands at the end
-stands_none : {X : Type 0} (le : X → X → Bool) (es : List (Entry X)) (p : X) → StandsAt le es 0 p 0
-stands_none le es p d j pos lj = absurd (omega arith)
-
--- with no entry in use the fingers of begin stand at the end
-stands_begun : {X : Type 0} (le : X → X → Bool) (es : List (Entry X)) (first asked : X) (hand : Hand) → Stood le es 0 (finger_of (Some (started first asked)) hand)
-stands_begun le es first asked Put = stands_none le es first
-stands_begun le es first asked Take = stands_none le es first
-stands_begun le es first asked Ask = stands_none le es asked
-
--- with no entry in use the fingers stand at any heights
-pub fit_begun : {X : Type 0} (le : X → X → Bool) (es : List (Entry X)) (first asked : X) → Fit le es 0 (Some (started first asked))
-fit_begun le es first asked = record { order = none_in_order le es; stands = stands_begun le es first asked; counted = refl }
-
--- what a list shows that has begun
-pub shown_begun : {X : Type 0} (es gs : List (Entry X)) (used m : ℕ) (f : Option (Fingers X)) (first asked : X) → length gs ≡ length es
-    → shown gs 0 0 (Some (started first asked)) ≡ begun (shown es used m f) first asked
-shown_begun {X} es gs used m None first asked e =
-    let V : ℕ → View X = λ n. record { held = []; places = places_of n; mileage = 0; rule = fingers first first asked } in ap V e
-shown_begun {X} es gs used m (Some f) first asked e =
-    let V : ℕ → View X = λ n. record { held = []; places = places_of n; mileage = 0; rule = fingers first first asked } in ap V e
+-- what `map_or` returns, where the closure does what a function says
+pub mapped_or : {A B : Type 0} {P : A → Type 0} (k : A → B) (o : Option A) (d r : B) → MatchOption o (r ≡ d) P
+    → ((x : A) → P x → r ≡ k x) → r ≡ option_map_or k o d
+mapped_or k None d r e same = e
+mapped_or k (Some x) d r e same = same x e

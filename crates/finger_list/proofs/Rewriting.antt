@@ -1,6 +1,6 @@
 -- Writes of links, entry by entry, and the insertion that they make.
 use Rattle.std.proofs.Common.{◌≡◌, ℕ, zero, suc, ◌+◌, ◌<◌, ◌≤◌, Bool, false, List, [], ◌∷◌, length, get_or, set, sym, refl, ap, ◌∙◌, subst, inl, inr, ⊎_elim, arith}
-use Rattle.std.proofs.lemmas.List.{get_or_read, get_or-set_same, get_or-set_other, length-set}
+use Rattle.std.proofs.lemmas.List.{get_or_default, get_or-set_same, get_or-set_other, length-set}
 use Rattle.std.proofs.lemmas.Bool.{cases_eq}
 use Rattle.finger_list.specs.declared.entry.Entry.{Entry}
 use Rattle.finger_list.specs.Entries.{height_at, number_at, next_at, prev_at}
@@ -10,12 +10,11 @@ use Rattle.heights.specs.Order.{Preorder}
 use Rattle.finger_list.proofs.Chains.{chain_insert}
 
 -- an entry written with another link up
-pub next_set : {X : Type 0} (es : List (Entry X)) (i x : ℕ) (e : Entry X) → e ≡ get_or es i e
-    → set es i (record { height = e.height; number = e.number; next = x; prev = e.prev }) ≡ with_next es i x
-next_set [] i x e is = refl
-next_set {X} (y ∷ es) zero x e is =
-    let f : Entry X → List (Entry X) = λ u. record { height = u.height; number = u.number; next = x; prev = u.prev } ∷ es in ap f is
-next_set {X} (y ∷ es) (suc i) x e is = ap (λ us. y ∷ us) (next_set es i x e is)
+pub next_set : {X : Type 0} (es : List (Entry X)) (i x : ℕ) (d : Entry X)
+    → set es i (record { height = height_at es d i; number = number_at es d i; next = x; prev = prev_at es d i }) ≡ with_next es i x
+next_set [] i x d = refl
+next_set (y ∷ es) zero x d = refl
+next_set (y ∷ es) (suc i) x d = ap (λ us. y ∷ us) (next_set es i x d)
 
 -- another link up keeps the length
 pub next_length : {X : Type 0} (es : List (Entry X)) (i x : ℕ) → length (with_next es i x) ≡ length es
@@ -62,12 +61,11 @@ next_other (y ∷ es) (suc i) x d zero ne = refl
 next_other (y ∷ es) (suc i) x d (suc j) ne = next_other es i x d j (λ q. ne (ap suc q))
 
 -- an entry written with another link down
-pub prev_set : {X : Type 0} (es : List (Entry X)) (i x : ℕ) (e : Entry X) → e ≡ get_or es i e
-    → set es i (record { height = e.height; number = e.number; next = e.next; prev = x }) ≡ with_prev es i x
-prev_set [] i x e is = refl
-prev_set {X} (y ∷ es) zero x e is =
-    let f : Entry X → List (Entry X) = λ u. record { height = u.height; number = u.number; next = u.next; prev = x } ∷ es in ap f is
-prev_set {X} (y ∷ es) (suc i) x e is = ap (λ us. y ∷ us) (prev_set es i x e is)
+pub prev_set : {X : Type 0} (es : List (Entry X)) (i x : ℕ) (d : Entry X)
+    → set es i (record { height = height_at es d i; number = number_at es d i; next = next_at es d i; prev = x }) ≡ with_prev es i x
+prev_set [] i x d = refl
+prev_set (y ∷ es) zero x d = refl
+prev_set (y ∷ es) (suc i) x d = ap (λ us. y ∷ us) (prev_set es i x d)
 
 -- another link down keeps the length
 pub prev_length : {X : Type 0} (es : List (Entry X)) (i x : ℕ) → length (with_prev es i x) ≡ length es
@@ -114,19 +112,19 @@ prev_other (y ∷ es) (suc i) x d zero ne = refl
 prev_other (y ∷ es) (suc i) x d (suc j) ne = prev_other es i x d j (λ q. ne (ap suc q))
 
 -- the three writes of an insertion
-pub inserted_by : {X : Type 0} (es : List (Entry X)) (used a : ℕ) (h : X) (here : Entry X) (f : Entry X)
-    → Linked es used → a ≤ used → used + 1 < length es → here ≡ get_or es a here
-    → f.height ≡ h → f.number ≡ 1 → f.next ≡ here.next → f.prev ≡ a
-    → Inserted es (with_prev (with_next (set es (used + 1) f) a (used + 1)) here.next (used + 1)) used a h
-inserted_by {X} es used a h here f l low room is fh fn fx fp =
+pub inserted_by : {X : Type 0} (es : List (Entry X)) (used a : ℕ) (h : X) (o : Entry X) (f : Entry X)
+    → Linked es used → a ≤ used → used + 1 < length es
+    → f.height ≡ h → f.number ≡ 1 → f.next ≡ next_at es o a → f.prev ≡ a
+    → Inserted es (with_prev (with_next (set es (used + 1) f) a (used + 1)) (next_at es o a) (used + 1)) used a h
+inserted_by {X} es used a h o f l low room fh fn fx fp =
     let n = used + 1 in
-    let k = here.next in
+    let k = next_at es o a in
     let gs = set es n f in
     let ns = with_next gs a n in
     let size : length gs ≡ length es = length-set es n f in
     let size₂ : length ns ≡ length es = next_length gs a n ∙ size in
-    let kd : (d : Entry X) → k ≡ next_at es d a = λ d. ap (λ (e : Entry X). e.next) (get_or_read es a here (omega arith) is d) in
-    let kl : k ≤ used = subst (λ m. m ≤ used) (sym (kd here)) (l.2 a here low (omega arith)).0 in
+    let kd : (d : Entry X) → k ≡ next_at es d a = λ d. ap (λ (e : Entry X). e.next) (get_or_default es a o d (omega arith)) in
+    let kl : k ≤ used = (l.2 a o low (omega arith)).0 in
     let at : (d : Entry X) → get_or gs n d ≡ f = λ d. get_or-set_same es n f d room in
     let off : (d : Entry X) (j : ℕ) → (j ≡ n → ⊥) → get_or gs j d ≡ get_or es j d = λ d j ne. get_or-set_other es n j f d ne in
     record {

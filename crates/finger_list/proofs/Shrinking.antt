@@ -1,125 +1,59 @@
 -- One height less: one less of an entry, or the entry with it.
-use Rattle.std.proofs.Common.{◌≡◌, ℕ, ◌+◌, ◌-◌, ◌<◌, ◌≤◌, Bool, true, false, cond, eqb, List, length, get_or, set, sum_by, sym, refl, ap, ◌∙◌, subst, ⊎_elim, arith}
-use Rattle.std.proofs.lemmas.List.{get_or_read, get_or-set_same, get_or-set_other, length-set}
-use Rattle.std.proofs.lemmas.Bool.{cases_eq, eq-eqb, ne_eqb, both_ways, and_parts}
+use Rattle.std.proofs.Common.{◌≡◌, ℕ, ◌+◌, ◌-◌, ◌<◌, ◌≤◌, Bool, true, false, cond, eqb, List, length, get_or, sym, refl, ap, ◌∙◌, subst, ⊎_elim, arith}
+use Rattle.std.proofs.lemmas.List.{get_or_default, length-set}
+use Rattle.std.proofs.lemmas.Bool.{cases_eq, eq-eqb, ne_eqb, both_ways, and_parts, false_from_ne_true}
 use Rattle.finger_list.specs.declared.entry.Entry.{Entry}
 use Rattle.finger_list.specs.declared.change.Spot.{Spot}
 use Rattle.finger_list.specs.Entries.{in_use, height_at, number_at, next_at, prev_at, held_in, Positive}
-use Rattle.finger_list.specs.Linking.{Linked, not_past, Stands, StandsAt}
+use Rattle.finger_list.specs.Linking.{Linked, not_past, StandsAt}
 use Rattle.finger_list.specs.Writing.{by_name}
 use Rattle.finger_list.specs.Hands.{left_link}
-use Rattle.finger_list.specs.Walking.{part, many, weighs}
+use Rattle.finger_list.specs.Walking.{many}
 use Rattle.finger_list.specs.Changes.{EntryGone, Shrunk}
 use Rattle.counters.specs.Held.{tally}
 use Rattle.heights.specs.Order.{Preorder, level}
-use Rattle.counters.proofs.Preorders.{never_true, reflexive}
 use Rattle.counters.proofs.Tallies.{tally_always}
-use Rattle.finger_list.proofs.Weights.{weighs_nothing, weighs_same, length_used, at_used, by_link}
+use Rattle.finger_list.proofs.Weights.{weighs_nothing, weighs_same, length_used, at_used}
 use Rattle.finger_list.proofs.Chains.{np_at, np_link}
 use Rattle.finger_list.proofs.Distances.{tally_heights, length_held}
-use Rattle.finger_list.proofs.Standing.{Renamed, chain_rename, stands_rename}
-use Rattle.finger_list.proofs.Growth.{sum_bump}
+use Rattle.finger_list.proofs.Growth.{level_there}
+use Rattle.finger_list.proofs.Renumbering.{renumbered, renumbered_positive, renumbered_linked, renumbered_order, renumbered_stands, renumbered_weighs, one_more}
 use Rattle.finger_list.proofs.Unlinking.{name_new, name_old, name_under, no_loop}
-
--- an entry with one height less
-abbrev pub less : {X : Type 0} → Entry X → Entry X
-less e = record { height = e.height; number = e.number - 1; next = e.next; prev = e.prev }
-
--- one less of an entry changes its number alone
-pub less_was : {X : Type 0} (es : List (Entry X)) (a : ℕ) (e : Entry X) → a < length es → e ≡ get_or es a e → (d : Entry X) (j : ℕ)
-    → (height_at (set es a (less e)) d j ≡ height_at es d j) × (next_at (set es a (less e)) d j ≡ next_at es d j) × (prev_at (set es a (less e)) d j ≡ prev_at es d j)
-    × (number_at (set es a (less e)) d j ≤ number_at es d j)
-less_was {X} es a e lt is d j = ⊎_elim
-    (λ (q : j ≡ a).
-    let w : get_or (set es a (less e)) j d ≡ less e = ap (λ m. get_or (set es a (less e)) m d) q ∙ get_or-set_same es a (less e) d lt in
-    let o : get_or es j d ≡ e = ap (λ m. get_or es m d) q ∙ sym (get_or_read es a e lt is d) in (
-      ap (λ (x : Entry X). x.height) w ∙ sym (ap (λ (x : Entry X). x.height) o),
-      ap (λ (x : Entry X). x.next) w ∙ sym (ap (λ (x : Entry X). x.next) o),
-      ap (λ (x : Entry X). x.prev) w ∙ sym (ap (λ (x : Entry X). x.prev) o),
-      omega (arith, ap (λ (x : Entry X). x.number) w, ap (λ (x : Entry X). x.number) o),
-    ))
-    (λ (ne : j ≡ a → ⊥).
-    let w = get_or-set_other es a j (less e) d ne in
-    (ap (λ (x : Entry X). x.height) w, ap (λ (x : Entry X). x.next) w, ap (λ (x : Entry X). x.prev) w, omega (arith, ap (λ (x : Entry X). x.number) w)))
-    (cases_eq j a)
-
--- one less of an entry weighs one of its height less
-pub less_weighs : {X : Type 0} (es : List (Entry X)) (used a : ℕ) (e : Entry X) → used ≤ length es - 1 → 0 < a → a ≤ used → e ≡ get_or es a e → 1 < e.number
-    → (t : X → Bool) → weighs t many (in_use es used) ≡ cond (t e.height) 1 0 + weighs t many (in_use (set es a (less e)) used)
-less_weighs {X} es used a e room pos low is two t =
-    let fs = set es a (less e) in
-    let f : Entry X → ℕ = part t many in
-    let size = length-set es a (less e) in
-    let n₁ = length_used es used room in
-    let n₂ = length_used fs used (omega (arith, size)) in
-    let lt : a < length es = omega arith in
-    let sp : (b : Bool) → ◌≡◌ {A = ℕ} (cond b e.number 0) (cond b (e.number - 1) 0 + cond b 1 0)
-    = λ b. elim b as (λ v. ◌≡◌ {A = ℕ} (cond v e.number 0) (cond v (e.number - 1) 0 + cond v 1 0)) [ true ↦ omega arith | false ↦ omega arith ] in
-    let x : ℕ = cond (t e.height) 1 0 in
-    let s : sum_by f (in_use es used) ≡ sum_by f (in_use fs used) + x
-    = sum_bump f (in_use fs used) (in_use es used) (a - 1) x (n₂ ∙ sym n₁) (omega arith)
-    (λ d. ap f (by_link es used a d pos low ∙ sym (get_or_read es a e lt is d)) ∙ sp (t e.height)
-    ∙ ap (λ (y : Entry X). f y + x) (sym (by_link fs used a d pos low ∙ get_or-set_same es a (less e) d lt)))
-    (λ k d l ne. ap f (at_used es used k d (omega arith) ∙ sym (get_or-set_other es a (1 + k) (less e) d (λ q. ne (omega arith))) ∙ sym (at_used fs used k d (omega arith)))) in
-    omega (arith, s)
-
--- e is level with h where h stands at it and is not higher
-pub level_there : {X : Type 0} {le : X → X → Bool} (o : Preorder le)
-    (es : List (Entry X)) (used a : ℕ) (h : X) (e : Entry X) → 0 < a → a ≤ used → e ≡ get_or es a e → StandsAt le es used h a → le e.height h ≡ true
-level_there {X} {le} o es used a h e pos low is at =
-    let he : height_at es e a ≡ e.height = sym (ap (λ (x : Entry X). x.height) is) in
-    sym (ap (λ y. le y h) he) ∙ at e a pos low ∙ np_at le (height_at es e) a (height_at es e a) (λ z. omega arith) ∙ reflexive o (height_at es e a)
 
 -- what one less of an entry does
 pub shrunk_less : {X : Type 0} {le : X → X → Bool} (o : Preorder le)
-    (es : List (Entry X)) (used a : ℕ) (h : X) (e : Entry X) → Linked es used → 0 < a → a ≤ used → e ≡ get_or es a e → 1 < e.number → Positive es used
-    → le h e.height ≡ true → Shrunk le es (set es a (less e)) used a h (record { used = used; link = a })
-shrunk_less {X} {le} o es used a h e l pos low is two ps up =
-    let fs = set es a (less e) in
+    (es : List (Entry X)) (used a : ℕ) (h : X) (e d : Entry X) → Linked es used → 0 < a → a ≤ used → 1 < number_at es d a → Positive es used
+    → le h (height_at es e a) ≡ true → Shrunk le es (renumbered es e a (number_at es d a - 1)) used a h (record { used = used; link = a })
+shrunk_less {X} {le} o es used a h e d l pos low two ps up =
+    let n = number_at es d a - 1 in
+    let fs = renumbered es e a n in
     let lt : a < length es = omega (arith, l.0) in
-    let size = length-set es a (less e) in
-    let s = less_was es a e lt is in
-    let named : (d : Entry X) → Renamed (height_at es d) (λ j. j ≤ used) (height_at fs d) (λ j. j ≤ used) (λ j. j)
-    = λ d. record { inside = λ j q. q; end = λ j _ q. q; ends = λ j _ q. q; one = λ i j _ _ q. q; same = λ j _. (s d j).0 } in
+    let same : number_at es e a ≡ n + 1 = omega (arith, ap (λ (x : Entry X). x.number) (get_or_default es a e d lt)) in
+    let w = renumbered_weighs es used e a n l.0 pos low in
     let link : (i : ℕ) → i ≡ left_link a (record { used = used; link = a }) used i
     = λ i. sym (ap (λ b. cond b i (by_name used a (cond (eqb i a) a i))) (eq-eqb used used refl)) in
     record {
-      size = size;
+      size = length-set es a _;
       fewer = omega arith;
-      linked = (
-        omega (arith, size, l.0),
-        l.1,
-        λ i d lo il.
-            let t = l.2 i d lo (omega (arith, size)) in (
-              omega (arith, (s d i).1, t.0),
-              omega (arith, (s d i).2, t.1),
-              omega (arith, (s d i).3, t.2),
-              ap (next_at fs d) (s d i).2 ∙ (s d (prev_at es d i)).1 ∙ t.3,
-              ap (prev_at fs d) (s d i).1 ∙ (s d (next_at es d i)).2 ∙ t.4,
-            ),
-      );
+      linked = renumbered_linked es used e a n lt (omega (arith, same, (l.2 a e low lt).2)) l;
       inside = λ i im. subst (λ m. m ≤ used) (link i) im;
-      positive = λ i d p lo. ⊎_elim
-          (λ (q : i ≡ a). subst (λ m. 0 < (get_or fs m d).number) (sym q) (omega (arith, ap (λ (x : Entry X). x.number) (get_or-set_same es a (less e) d lt))))
-          (λ (ne : i ≡ a → ⊥). omega (arith, ap (λ (x : Entry X). x.number) (get_or-set_other es a i (less e) d ne), ps i d p lo))
-          (cases_eq i a);
-      all = omega (arith, less_weighs es used a e l.0 pos low is two (λ _. true), length_held es used, length_held fs used);
+      positive = renumbered_positive es used e a n lt (omega arith) ps;
+      all = omega (arith, w (λ _. true), same, length_held es used, length_held fs used);
       held = λ so at. record {
         tallies = λ p b.
             let g : Bool → ℕ = λ v. cond v 1 0 in
             omega (
               arith,
-              less_weighs es used a e l.0 pos low is two p,
-              ap g (b e.height h (level_there o es used a h e pos low is at) up),
+              w p,
+              ap (λ m. cond (p (height_at es e a)) m 0) same,
+              one_more (p (height_at es e a)) n,
+              ap g (b (height_at es e a) h (level_there o es used a h e pos low at) up),
               tally_heights p (in_use es used),
               tally_heights p (in_use fs used),
             );
       };
-      order = λ so d.
-          chain_rename le (height_at es d) (next_at es d) (λ j. j ≤ used) (height_at fs d) (next_at fs d) (λ j. j ≤ used) (λ j. j) (named d)
-          (λ j lo. omega (arith, (s d j).1, (l.2 j d lo (omega (arith, l.0))).0)) (λ j _. (s d j).1) (so d);
-      fingers = λ so p i im at d. subst (λ m. Stands le (height_at fs d) (λ j. j ≤ used) p m) (link i)
-          (stands_rename le (height_at es d) (λ j. j ≤ used) (height_at fs d) (λ j. j ≤ used) (λ j. j) (named d) p i im (at d));
+      order = renumbered_order le es used e a n lt l;
+      fingers = λ so p i im at. subst (λ m. StandsAt le fs used p m) (link i) (renumbered_stands le es used e a n p i im at);
     }
 
 -- what the last height of an entry does when it goes
@@ -159,7 +93,8 @@ shrunk_out {X} {le} o es fs used a h e prev l pos low is one' ps up pv w =
       held = λ so at. record {
         tallies = λ p b.
             let g : Bool → ℕ = λ v. cond v 1 0 in
-            omega (arith, weigh p, ap g (b e.height h (level_there o es used a h e pos low is at) up));
+            let down : le e.height h ≡ true = ap (λ (x : Entry X). le x.height h) is ∙ level_there o es used a h e pos low at in
+            omega (arith, weigh p, ap g (b e.height h down up));
       };
       order = w.order;
       fingers = λ so p i im at.
@@ -178,7 +113,7 @@ none_there {X} {le} o es used a h room low at =
     let off : (k : ℕ) (d : Entry X) → k < length us → level le (get_or us k d).height h ≡ false
     = λ k d lt.
     let e = at_used es used k d (omega arith) in
-    ap (λ (x : Entry X). level le x.height h) e ∙ never_true _ (λ q.
+    ap (λ (x : Entry X). level le x.height h) e ∙ false_from_ne_true _ (λ q.
     let b = and_parts (le (height_at es d (1 + k)) h) (le h (height_at es d (1 + k))) q in
     let on : not_past le (height_at es d) a (height_at es d (1 + k)) ≡ true = sym (at d (1 + k) (omega arith) (omega arith)) ∙ b.0 in
     let nz = np_link le (height_at es d) a (height_at es d (1 + k)) on in

@@ -1,10 +1,10 @@
 -- Where heights stand when an entry comes in, goes out, or gets another name.
 use Rattle.std.proofs.Common.{◌≡◌, ℕ, ◌<◌, Bool, true, false, cond, not, eqb, ◌⊎◌, sym, ap, ◌∙◌, subst, ⊎_elim, arith}
-use Rattle.std.proofs.lemmas.Bool.{both_ways, cases_eq, eq-eqb, ne_eqb, not-false}
+use Rattle.std.proofs.lemmas.Bool.{both_ways, cases_eq, eq-eqb, ne_eqb, not-false, true_from_ne_false}
 use Rattle.finger_list.specs.Linking.{not_past, onwards, Neighbours, Chain, Stands}
 use Rattle.heights.specs.Order.{Preorder}
 use Rattle.counters.proofs.Preorders.{equal_tests, reflexive, other_way}
-use Rattle.finger_list.proofs.Chains.{never_false, strict, np_at, ow_at, np_link, stands_once}
+use Rattle.finger_list.proofs.Chains.{strict, np_at, ow_at, np_link, stands_once}
 
 -- a finger that stands elsewhere, or lower than h, stays
 pub stands_stay : {X : Type 0} {le : X → X → Bool} (o : Preorder le)
@@ -20,7 +20,7 @@ stands_stay {X} {le} o H N L H' L' c h a n la sa new more hn hs p i li si off j 
     let hj : H' j ≡ h = ap H' e ∙ hn in
     let at : le h p ≡ not_past le H i h
     = equal_tests _ _
-    (λ q. never_false _ (λ out.
+    (λ q. true_from_ne_false _ (λ out.
     let s₂ : Stands le H L h i
     = λ m pm lm. equal_tests _ _
     (λ y. sym (si m pm lm) ∙ o.transitive (H m) h p y q)

@@ -1,17 +1,13 @@
--- What the memory of a finger list shows, what always holds of it, and when it is in order.
+-- What a finger list shows, and when it is in order.
 use Rattle.std.specs.Prelude.{Bool}
 use Rattle.counters.specs.Calls.{View}
-use Rattle.finger_list.specs.declared.memory.Memory.{Memory}
-use Rattle.finger_list.specs.Views.{shown, Tidy, Fit}
+use Rattle.finger_list.specs.declared.list.FingerList.{FingerList}
+use Rattle.finger_list.specs.Views.{shown, Fit}
 
--- what a memory shows
-abbrev pub view_of : {X : Type 0} → Memory X → View X
-view_of m = shown m.entries.now m.used m.mileage m.fingers
-
--- what always holds of a memory
-abbrev pub TidyMemory : {X : Type 0} → Memory X → Type 0
-TidyMemory m = Tidy m.entries.now m.used m.held m.fingers
+-- what a finger list shows
+abbrev pub view_of : {X : Type 0} → FingerList X → View X
+view_of s = shown s.entries.now s.used s.mileage s.fingers
 
 -- the list is in order, and its fingers stand where they should
-abbrev pub Standing : {X : Type 0} → (X → X → Bool) → Memory X → Type 0
-Standing le m = Fit le m.entries.now m.used m.fingers
+abbrev pub Standing : {X : Type 0} → (X → X → Bool) → FingerList X → Type 0
+Standing le s = Fit le s.entries.now s.used s.fingers

@@ -3,10 +3,9 @@ use Rattle.std.specs.Prelude.{◌≡◌, ℕ, ◌+◌, ◌-◌, ◌<◌, ◌≤�
 use Rattle.counters.specs.Calls.{View, StepRule, places_of, waiting, fingers}
 use Rattle.finger_list.specs.declared.entry.Entry.{Entry}
 use Rattle.finger_list.specs.declared.finger.Fingers.{Fingers}
-use Rattle.finger_list.specs.declared.finger.Hand.{Hand}
 use Rattle.finger_list.specs.Entries.{number_at, next_at, prev_at, held_in}
 use Rattle.finger_list.specs.Linking.{InOrder}
-use Rattle.finger_list.specs.Hands.{finger_of, link_of, count_of, Stood, Counted}
+use Rattle.finger_list.specs.Hands.{LinksIn, count_of, AllStand, Counted}
 
 -- the rule of the steps: waiting, or the heights where the fingers stand
 abbrev pub rule_of : {X : Type 0} → Option (Fingers X) → StepRule X
@@ -39,7 +38,7 @@ abbrev pub Noted : {X : Type 0} → List (Entry X) → (used held : ℕ) → Opt
 Noted {X} es used held f =
     ((i : ℕ) (d : Entry X) → i < used → 0 < number_at es d (i + 1))
     × (held ≡ length (held_in es used)) × (held ≤ places_of (length es))
-    × ((hand : Hand) → link_of (finger_of f hand) ≤ used) × (count_of f ≤ held)
+    × LinksIn f used × (count_of f ≤ held)
 
 -- what always holds, whatever the order
 abbrev pub Tidy : {X : Type 0} → List (Entry X) → (used held : ℕ) → Option (Fingers X) → Type 0
@@ -48,5 +47,5 @@ Tidy es used held f = Inside es used × Back es used × Forth es used × Noted e
 -- the entries are in order, each finger's height stands at its link, and the count is that of the ask finger
 pub record Fit {X : Type 0} (le : X → X → Bool) (es : List (Entry X)) (used : ℕ) (f : Option (Fingers X)) : Type 0 where
   pub order : InOrder le es used
-  pub stands : (hand : Hand) → Stood le es used (finger_of f hand)
+  pub stands : AllStand le es used f
   pub counted : Counted le (held_in es used) f

@@ -19,14 +19,10 @@ pub(crate) struct Spot {
 pub(crate) fn clear<H: Height>(entries: &mut [Entry<H>])
     ensures { Linked entries.new 0 }
 {
-    if entries.len() > 0 {
-        let end = entries[0];
-        entries[0] = Entry {
-            number: 0,
-            next: 0,
-            prev: 0,
-            ..end
-        };
+    if let Some(end) = entries.first_mut() {
+        end.number = 0;
+        end.next = 0;
+        end.prev = 0;
     }
 }
 
@@ -39,15 +35,9 @@ pub(crate) fn add<H: Height>(entries: &mut [Entry<H>], used: usize, from: usize,
     requires small { length (held_in entries.old used) < 1048576 }
     ensures { Grown H.Height.not_higher entries.old entries.new used from height result }
 {
-    if from != 0 {
-        let entry = entries[from];
-        if height.is_not_higher(entry.height) {
-            entries[from] = Entry {
-                number: entry.number + 1,
-                ..entry
-            };
-            return Spot { used, link: from };
-        }
+    if from != 0 && height.is_not_higher(entries[from].height) {
+        entries[from].number += 1;
+        return Spot { used, link: from };
     }
     insert(entries, used, from, height);
     Spot {
@@ -81,21 +71,14 @@ pub(crate) fn remove<H: Height>(
     requires positive { Positive entries.old used }
     ensures { Removed H.Height.not_higher entries.old entries.new used at height result }
 {
-    if at == 0 {
+    if at == 0 || !height.is_not_higher(entries[at].height) {
         return None;
     }
-    let entry = entries[at];
-    if !height.is_not_higher(entry.height) {
-        return None;
-    }
-    if entry.number > 1 {
-        entries[at] = Entry {
-            number: entry.number - 1,
-            ..entry
-        };
+    if entries[at].number > 1 {
+        entries[at].number -= 1;
         return Some(Spot { used, link: at });
     }
-    let link = renamed(entry.prev, at, 0);
+    let link = renamed(entries[at].prev, at, 0);
     remove_entry(entries, used, at);
     Some(Spot {
         used: used - 1,

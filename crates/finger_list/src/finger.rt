@@ -1,6 +1,6 @@
 //! The fingers of a list.
 ghost use Rattle.std.specs.Prelude.{◌≡◌};
-ghost use Rattle.finger_list.specs.Hands.{finger_of, followed, left};
+ghost use Rattle.finger_list.specs.Hands.{followed, left};
 
 use crate::change::Spot;
 use crate::links::renamed;
@@ -22,49 +22,29 @@ pub(crate) struct Fingers<H> {
     pub(crate) count: usize,
 }
 
-// The call that a finger serves.
-#[derive(Clone, Copy)]
-pub(crate) enum Hand {
-    Put,
-    Take,
-    Ask,
-}
-
-// The finger of a call, where the fingers stand.
-pub(crate) fn finger_of<H: Height>(fingers: Option<Fingers<H>>, hand: Hand) -> Option<Finger<H>>
-    ensures { result ≡ finger_of fingers hand }
-{
-    match fingers {
-        None => None,
-        Some(standing) => match hand {
-            Hand::Put => Some(standing.put),
-            Hand::Take => Some(standing.take),
-            Hand::Ask => Some(standing.ask),
-        },
+impl<H: Height> Finger<H> {
+    // The finger, when a height that stood at the link `from` came to stand at the link `to`.
+    pub(crate) fn followed(self, from: usize, to: usize, height: H) -> Finger<H>
+        ensures { result ≡ followed H.Height.not_higher self from to height }
+    {
+        if self.link == from && height.is_not_higher(self.height) {
+            Finger { link: to, ..self }
+        } else {
+            self
+        }
     }
-}
 
-// A finger, when a height that stood at the link `from` came to stand at the link `to`.
-pub(crate) fn follow<H: Height>(finger: Finger<H>, from: usize, to: usize, height: H) -> Finger<H>
-    ensures { result ≡ followed H.Height.not_higher finger from to height }
-{
-    if finger.link == from && height.is_not_higher(finger.height) {
-        Finger { link: to, ..finger }
-    } else {
-        finger
-    }
-}
-
-// A finger, when one height of the entry `at` was removed.
-pub(crate) fn leave<H: Height>(finger: Finger<H>, at: usize, spot: Spot, used: usize) -> Finger<H>
-    ensures { result ≡ left finger at spot used }
-{
-    if spot.used == used {
-        return finger;
-    }
-    let link = renamed(finger.link, at, spot.link);
-    Finger {
-        link: renamed(link, used, at),
-        ..finger
+    // The finger, when one height of the entry `at` was removed.
+    pub(crate) fn left(self, at: usize, spot: Spot, used: usize) -> Finger<H>
+        ensures { result ≡ left self at spot used }
+    {
+        if spot.used == used {
+            return self;
+        }
+        let link = renamed(self.link, at, spot.link);
+        Finger {
+            link: renamed(link, used, at),
+            ..self
+        }
     }
 }

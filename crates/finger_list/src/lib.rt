@@ -7,6 +7,5 @@ pub mod entry;
 mod finger;
 mod links;
 pub mod list;
-mod memory;
 mod turn;
 mod walk;

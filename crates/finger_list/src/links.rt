@@ -1,4 +1,6 @@
 //! The links between entries. Entry 0 is the end of the list: it holds no height, and its links lead to the lowest and the highest entry.
+//! No struct is made of slice and number here, as `Links` is for a walk, which only reads: between two writes of links they are half
+//! made, and a type that holds a `&mut` keeps its ghost fields at each write.
 ghost use Rattle.std.specs.Prelude.{◌≡◌, ◌+◌, ◌<◌, ◌≤◌, length};
 ghost use Rattle.finger_list.specs.Linking.{Linked};
 ghost use Rattle.finger_list.specs.Writing.{with_next, with_prev, by_name, Inserted, Unlinked, Half, Relocated};
@@ -13,13 +15,12 @@ pub(crate) fn renamed(link: usize, from: usize, to: usize) -> usize
     if link == from { to } else { link }
 }
 
-// Makes `next` the link up of an entry.
+// Makes `next` the link up of an entry; a function, since of such writes in a row by hand the check left bounds and the list open.
 pub(crate) fn set_next<H: Height>(entries: &mut [Entry<H>], at: usize, next: usize)
     requires { at < length entries.old }
     ensures { entries.new ≡ with_next entries.old at next }
 {
-    let entry = entries[at];
-    entries[at] = Entry { next, ..entry };
+    entries[at].next = next;
 }
 
 // Makes `prev` the link down of an entry.
@@ -27,8 +28,7 @@ pub(crate) fn set_prev<H: Height>(entries: &mut [Entry<H>], at: usize, prev: usi
     requires { at < length entries.old }
     ensures { entries.new ≡ with_prev entries.old at prev }
 {
-    let entry = entries[at];
-    entries[at] = Entry { prev, ..entry };
+    entries[at].prev = prev;
 }
 
 // Puts a height above the entry `after`, into the first entry that is not used.
@@ -40,16 +40,16 @@ pub(crate) fn insert<H: Height>(entries: &mut [Entry<H>], used: usize, after: us
     ensures linked { Linked entries.new (used + 1) }
     ensures inserted { Inserted entries.old entries.new used after height }
 {
-    let here = entries[after];
     let at = used + 1;
+    let next = entries[after].next;
     entries[at] = Entry {
         height,
         number: 1,
-        next: here.next,
+        next,
         prev: after,
     };
     set_next(entries, after, at);
-    set_prev(entries, here.next, at);
+    set_prev(entries, next, at);
 }
 
 // Closes the list round an entry.

@@ -1,5 +1,6 @@
 -- An ask is told rightly, from memory or from below.
-use Rattle.std.proofs.Common.{◌≡◌, ℕ, Bool, true, false, cond, List, Some, None, Option, sym, refl, ap, ◌∙◌, subst, arith}
+use Rattle.std.proofs.Common.{◌≡◌, ℕ, Bool, true, List, Some, None, Option, sym, refl, ap, ◌∙◌, subst, arith}
+use Rattle.std.proofs.lemmas.Option.{cond_some}
 use Rattle.heights.specs.Order.{Preorder, level}
 use Rattle.counters.specs.declared.counter.Asked.{Asked}
 use Rattle.counters.specs.declared.counter.Counter.{Ghosts}
@@ -67,16 +68,12 @@ told {le = le} o v h n m e l k =
       sound = record { count = right; mileage = k.mileage; finger = asked_level o v.rule m.height h l k.finger };
     }
 
-from_some : (b : Bool) (n count : ℕ) → Some n ≡ cond b (Some count) None → (n ≡ count) × (b ≡ true)
-from_some true n count e = (cc, refl)
-from_some false n count e = absurd (let z : ◌≡◌ {A = ℕ} 0 1 = cc in omega arith)
-
 -- a recalled answer is right
 pub recall_tells : {X : Type 0} {le : X → X → Bool} → Preorder le → (v : View X) (h : X) (n : ℕ) (last : Option (Remembered X)) → Some n ≡ recalled le h last → Remembers le v last → Told le v h n last
 recall_tells o v h n None e k = absurd (let z : ◌≡◌ {A = ℕ} 0 1 = cc in omega arith)
 recall_tells {le = le} o v h n (Some m) e k =
-    let f = from_some (level le m.height h) n m.count e in
-    told o v h n m f.0 f.1 k
+    let f = cond_some (level le m.height h) m.count n (sym e) in
+    told o v h n m (sym f.1) f.0 k
 
 -- ---- from below
 

@@ -6,7 +6,7 @@ ghost use Rattle.flat_layer.specs.Memory.{recalled, Flat};
 ghost use Rattle.flat_layer.specs.Layers.{layer_view, LayerSound};
 
 use crate::layer::FlatLayer;
-use crate::remembered::{Remembered, after_put, after_take, recall};
+use crate::remembered::Remembered;
 use counters::counter::{Asked, Counter, Refusal};
 
 impl<C: Counter> Counter for FlatLayer<C> {
@@ -36,14 +36,14 @@ impl<C: Counter> Counter for FlatLayer<C> {
     fn put(&mut self, height: C::Kind) -> Result<u64, Refusal> {
         let steps = self.counter.put(height)?;
         let places = self.counter.places();
-        self.last = after_put(self.last, height, places);
+        self.last = self.last.map(|asked| asked.after_put(height, places));
         Ok(steps)
     }
 
     // Removes a height below and corrects the remembered answer.
     fn take(&mut self, height: C::Kind) -> Result<u64, Refusal> {
         let steps = self.counter.take(height)?;
-        self.last = after_take(self.last, height);
+        self.last = self.last.map(|asked| asked.after_take(height));
         Ok(steps)
     }
 
@@ -55,8 +55,11 @@ impl<C: Counter> Counter for FlatLayer<C> {
         ensures flat { Flat (recalled C.Kind.Height.not_higher height self.old.last) self.old.counter result self.new.counter }
         ensures remembers { self.new.last ≡ Some (record { height = height; count = result.count }) }
     {
-        let asked = match recall(self.last, height) {
-            Some(count) => Asked { count, steps: 0 },
+        let asked = match self.last.filter(|asked| asked.is_level(height)) {
+            Some(asked) => Asked {
+                count: asked.count,
+                steps: 0,
+            },
             None => self.counter.ask(height),
         };
         let count = asked.count;

@@ -31,7 +31,6 @@ impl<C: Counter> FlatLayer<C> {
         ensures below { result ≡ self.counter }
         ensures fingers { by_fingers (layer_view C.Counter self).rule ≡ by_fingers (C.Counter.view result).rule }
     {
-        let FlatLayer { counter, last: _ } = self;
-        counter
+        self.counter
     }
 }

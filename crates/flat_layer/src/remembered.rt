@@ -1,7 +1,7 @@
 //! What a layer remembers: the height last asked and its answer.
-ghost use Rattle.std.specs.Prelude.{◌≡◌, ◌≤◌};
+ghost use Rattle.std.specs.Prelude.{◌≡◌, ◌≤◌, Some};
 ghost use Rattle.heights.specs.Order.{level};
-ghost use Rattle.flat_layer.specs.Memory.{after_put, after_take, recalled};
+ghost use Rattle.flat_layer.specs.Memory.{after_put, after_take};
 
 use heights::height::Height;
 
@@ -21,58 +21,30 @@ impl<H: Height> Remembered<H> {
     }
 
     // Whether a height is level with the remembered one.
-    fn is_level(self, height: H) -> bool
+    pub(crate) fn is_level(self, height: H) -> bool
         ensures { result ≡ level H.Height.not_higher self.height height }
     {
         self.height.is_not_higher(height) && self.counts(height)
     }
-}
 
-// What is remembered after a height was put: one more if the answer counts it, and never more than the places.
-pub(crate) fn after_put<H: Height>(
-    last: Option<Remembered<H>>,
-    height: H,
-    places: usize,
-) -> Option<Remembered<H>>
-    requires { places ≤ 1048576 }
-    ensures { result ≡ after_put H.Height.not_higher height places last }
-{
-    match last {
-        Some(asked) if asked.counts(height) => {
-            let count = asked.count.saturating_add(1).min(places as u32);
-            Some(Remembered {
-                height: asked.height,
-                count,
-            })
+    // What is remembered after a height was put: one more if the answer counts it, and never more than the places.
+    pub(crate) fn after_put(mut self, height: H, places: usize) -> Remembered<H>
+        requires { places ≤ 1048576 }
+        ensures { Some result ≡ after_put H.Height.not_higher height places (Some self) }
+    {
+        if self.counts(height) {
+            self.count = self.count.saturating_add(1).min(places as u32);
         }
-        Some(asked) => Some(asked),
-        None => None,
+        self
     }
-}
 
-// What is remembered after a height was taken: one less if the answer counted it.
-pub(crate) fn after_take<H: Height>(last: Option<Remembered<H>>, height: H) -> Option<Remembered<H>>
-    ensures { result ≡ after_take H.Height.not_higher height last }
-{
-    match last {
-        Some(asked) if asked.counts(height) => {
-            let count = asked.count.saturating_sub(1);
-            Some(Remembered {
-                height: asked.height,
-                count,
-            })
+    // What is remembered after a height was taken: one less if the answer counted it.
+    pub(crate) fn after_take(mut self, height: H) -> Remembered<H>
+        ensures { Some result ≡ after_take H.Height.not_higher height (Some self) }
+    {
+        if self.counts(height) {
+            self.count = self.count.saturating_sub(1);
         }
-        Some(asked) => Some(asked),
-        None => None,
-    }
-}
-
-// The remembered answer for a height, if the remembered height is level with it.
-pub(crate) fn recall<H: Height>(last: Option<Remembered<H>>, height: H) -> Option<u32>
-    ensures { result ≡ recalled H.Height.not_higher height last }
-{
-    match last {
-        Some(asked) if asked.is_level(height) => Some(asked.count),
-        _ => None,
+        self
     }
 }

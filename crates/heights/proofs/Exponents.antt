@@ -1,8 +1,8 @@
 -- A pattern whose exponent bits are not all ones is no NaN's, so it comes back from the number that it writes.
 use Rattle.std.proofs.Common.{◌≡◌, ℕ, ◌^◌, ◌<◌, Bool, not, T, subst, arith}
-use lib.Ieee.{Float, nan, inf, fin, binary32, is_nan, nan_bits, of_bits, to_bits}
+use lib.Ieee.{Float, nan, inf, fin, binary32, is_nan, of_bits, to_bits}
 use lib.Ieee.Bits.{to_bits-of_bits, nan_bits_is}
-use Rattle.std.proofs.num.Patterns.{below_the_nans}
+use Rattle.std.proofs.lemmas.Float.{not_nan_f32_bits}
 use Rattle.heights.specs.Patterns.{exponent}
 
 -- a number with such a pattern is not NaN
@@ -12,10 +12,6 @@ not_nan nan h = omega arith
 not_nan (inf s) h = tt
 not_nan (fin s m e) h = tt
 
--- such a pattern is none of NaN's
-pub no_nan_bits : (n : ℕ) → exponent n < 255 → T (not (nan_bits binary32 n))
-no_nan_bits n h = below_the_nans binary32 n (omega arith)
-
 -- the pattern of the number that such a pattern writes
 pub bits_back : (n : ℕ) → n < 2 ^ 32 → exponent n < 255 → to_bits binary32 (of_bits binary32 n) ≡ n
-bits_back n f h = to_bits-of_bits binary32 n f (subst (λ (b : Bool). T (not b)) (nan_bits_is binary32 n) (no_nan_bits n h))
+bits_back n f h = to_bits-of_bits binary32 n f (subst (λ (b : Bool). T (not b)) (nan_bits_is binary32 n) (not_nan_f32_bits n (omega arith)))

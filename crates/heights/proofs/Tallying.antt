@@ -1,5 +1,6 @@
 -- Counting the elements of a list.
-use Rattle.std.proofs.Common.{◌≡◌, ◌+◌, ◌≤◌, Bool, true, false, cond, List, [], ◌∷◌, ◌++◌, length, refl, arith}
+use Rattle.std.proofs.Common.{◌≡◌, ◌+◌, ◌≤◌, Bool, true, List, [], ◌∷◌, ◌++◌, length, refl, arith}
+use Rattle.std.proofs.lemmas.Bool.Decides.{nat_tests}
 use Rattle.heights.specs.Tally.{tally}
 
 -- the tally of two lists in a row is the sum of theirs
@@ -12,12 +13,7 @@ pub tally_always : {X : Type 0} (xs : List X) → tally (λ _. true) xs ≡ leng
 tally_always [] = refl
 tally_always (x ∷ xs) = omega (arith, tally_always xs)
 
--- a test counts at most 1 at each element
-one_at_most : (b : Bool) → cond b 1 0 ≤ 1
-one_at_most true = omega arith
-one_at_most false = omega arith
-
 -- a tally is at most the length
 pub tally_le_length : {X : Type 0} (p : X → Bool) (xs : List X) → tally p xs ≤ length xs
 tally_le_length p [] = omega arith
-tally_le_length p (x ∷ xs) = omega (arith, one_at_most (p x), tally_le_length p xs)
+tally_le_length p (x ∷ xs) = grind (arith, nat_tests, tally_le_length p xs)

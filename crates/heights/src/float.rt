@@ -8,32 +8,34 @@ use crate::finite::{Finite, FloatCause};
 use crate::height::{Height, HeightKind, Unread};
 
 // The first pattern with its sign bit set.
-const SIGN: u32 = 0x8000_0000;
+pub const SIGN: u32 = 0x8000_0000;
 
-// A float height as records and counters keep it: the plain 32 bits.
+// A float height as records and counters keep it: the plain 32 bits. It has no `==`, since both zeros are level and their bits differ.
 #[derive(Clone, Copy)]
 pub struct FloatBits {
     pub bits: u32,
 }
 
-impl FloatBits {
+impl From<Finite> for FloatBits {
+    ghost from_gives = { λ number height. height.bits ≡ to_bits binary32 number.value };
+
     // The bits of a finite number.
-    pub fn of(number: Finite) -> FloatBits
-        ensures { result.bits ≡ to_bits binary32 number.value }
-    {
+    fn from(number: Finite) -> FloatBits {
         FloatBits {
             bits: number.bits(),
         }
     }
+}
 
+impl FloatBits {
     // Where these bits stand in the order: both zeros stand at 0.
     pub fn rank(self) -> i64
         ensures { result ≡ key self.bits }
     {
         if self.bits < SIGN {
-            self.bits as i64
+            i64::from(self.bits)
         } else {
-            -((self.bits % SIGN) as i64)
+            -i64::from(self.bits % SIGN)
         }
     }
 }
@@ -64,12 +66,8 @@ impl HeightKind for FloatBits {
     }
 
     fn read(bytes: &[u8]) -> Result<FloatBits, Unread<FloatCause>> {
-        let [a, b, c, d] = bytes else {
-            return Err(Unread::Length);
-        };
-        match Finite::from_pattern(u32::from_be_bytes([*a, *b, *c, *d])) {
-            Ok(number) => Ok(FloatBits::of(number)),
-            Err(cause) => Err(Unread::Cause(cause)),
-        }
+        let stored = bytes.try_into().map_err(|_| Unread::Length)?;
+        let number = Finite::try_from(u32::from_be_bytes(stored)).map_err(Unread::Cause)?;
+        Ok(number.into())
     }
 }

@@ -3,14 +3,16 @@ ghost use Rattle.std.specs.Prelude.{◌≡◌, ℕ, ◌≤◌, Bool, List, Resul
 ghost use Rattle.heights.specs.Order.{Preorder};
 ghost use Rattle.heights.specs.Exact.{exactly};
 
-// Why stored bytes are no height: they are not as many as the kind stores, or the kind names a cause.
-#[derive(Clone, Copy)]
+// Why stored bytes are no height: they are not as many as the kind stores, or the kind names a cause. An enum of its own, since in an
+// `Option` of a cause nothing would say what `None` is.
+#[derive(Clone, Copy, PartialEq, Eq, Debug)]
 pub enum Unread<C> {
     Length,
     Cause(C),
 }
 
-// A type of height with its order, "not higher than".
+// A type of height with its order, "not higher than". Two laws are all that it asks; `Ord` also asks for three more traits and an
+// equality, by which level heights would be equal.
 pub trait Height: Copy {
     // whether the first height is not higher than the second
     ghost not_higher: { Self → Self → Bool };

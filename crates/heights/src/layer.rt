@@ -1,6 +1,6 @@
 //! The layers that ask questions of a call.
 // Which layer denies a call.
-#[derive(Clone, Copy)]
+#[derive(Clone, Copy, PartialEq, Eq, Debug)]
 pub enum Layer {
     Reader,
     Kind,

@@ -5,7 +5,7 @@ ghost use Rattle.std.proofs.Common.{rules};
 
 use crate::height::{Height, HeightKind, Unread};
 
-// No cause: every pattern reads.
+// No cause: every pattern reads. It derives no `==` and no `Debug`: no call of them could meet its contract.
 #[derive(Clone, Copy)]
 pub enum NoCause {}
 
@@ -35,9 +35,7 @@ impl HeightKind for i16 {
     }
 
     fn read(bytes: &[u8]) -> Result<i16, Unread<NoCause>> {
-        match bytes {
-            [high, low] => Ok(i16::from_be_bytes([*high, *low])),
-            _ => Err(Unread::Length),
-        }
+        let stored = bytes.try_into().map_err(|_| Unread::Length)?;
+        Ok(i16::from_be_bytes(stored))
     }
 }

@@ -1,17 +1,13 @@
 -- A list with a number for each cell of a grid in reading order.
-use Rattle.std.proofs.Common.{◌≡◌, ℕ, zero, suc, ◌+◌, ◌-◌, ◌*◌, ◌<◌, ◌≤◌, List, [], ◌∷◌, ◌++◌, map, length, get_or, take, drop, sum_by, sum, sym, refl, ap, ◌∙◌, suc-mul, mul_comm, zero-add, zero-mul, arith}
+use Rattle.std.proofs.Common.{◌≡◌, ℕ, zero, suc, ◌+◌, ◌*◌, ◌<◌, ◌≤◌, List, ◌++◌, map, length, get_or, take, drop, sum_by, sum, sym, ap, ◌∙◌, suc-mul, mul_comm, zero-add, zero-mul, arith}
 use Rattle.std.specs.List.{range_with_len, flat_map}
-use Rattle.std.proofs.lemmas.Nat.{mul-add-lt}
 use Rattle.std.proofs.lemmas.List.FromFn.{fill_by_all}
 use Rattle.std.proofs.lemmas.List.{take-append-drop, length-drop, length-take-le, get_or-take, get_or-drop, map-append, nil_from_length}
+use Rattle.std.proofs.lemmas.Simd.{map-map}
 use Rattle.std.proofs.lemmas.List.Sums.{sum-map}
 use Rattle.grid.specs.declared.Place.{Place}
 use Rattle.grid.specs.Terrain.{cells}
 use Rattle.pairs.proofs.Grids.{row_cells}
-
-map_twice : {A B C : Type 0} (f : B → C) (g : A → B) (xs : List A) → map f (map g xs) ≡ map (λ x. f (g x)) xs
-map_twice f g [] = refl
-map_twice f g (x ∷ xs) = ap (λ ys. f (g x) ∷ ys) (map_twice f g xs)
 
 -- a list that has a number for each cell of n rows from row a on
 pub rows_are : (f : Place → ℕ) (width a n : ℕ) (counts : List ℕ) → length counts ≡ n * width → ((x y d : ℕ) → x < width → y < n → get_or counts (y * width + x) d ≡ f (record { x = x; y = a + y })) → counts ≡ map f (flat_map (row_cells width) (range_with_len a n))
@@ -27,7 +23,7 @@ rows_are f width a (suc n) counts long each =
     rows_are f width (a + 1) n (drop width counts) (let short = length-drop width counts in omega arith)
     (λ x y d left low. get_or-drop width counts (y * width + x) d ∙ ap (λ i. get_or counts i d) (let more = suc-mul y width in omega arith) ∙ each x (suc y) d left (omega arith) ∙ ap (λ z. f (record { x = x; y = z })) (omega arith)) in
     sym (take-append-drop width counts)
-    ∙ ap (λ cs. cs ++ drop width counts) (first ∙ sym (map_twice f row (range_with_len 0 width)))
+    ∙ ap (λ cs. cs ++ drop width counts) (first ∙ sym (map-map f row (range_with_len 0 width)))
     ∙ ap (λ cs. map f (row_cells width a) ++ cs) rest
     ∙ sym (map-append f (row_cells width a) (flat_map (row_cells width) (range_with_len (a + 1) n)))
 

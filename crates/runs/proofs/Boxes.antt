@@ -1,5 +1,6 @@
 -- Two boxes whose cells have partnered heights, and what keeps them so.
 use Rattle.std.proofs.Common.{◌≡◌, ℕ, ◌+◌, ◌-◌, ◌*◌, ◌<◌, ◌≤◌, Bool, true, leb, List, [], ◌∷◌, ◌++◌, map, length, take, drop, set, Some, Option, sym, refl, ap, ◌∙◌, subst, arith}
+use Rattle.std.proofs.lemmas.Option.{same_Some}
 use Rattle.std.proofs.lemmas.List.{take_at, length-append, length-drop, length-map, length-take-le}
 use Rattle.std.proofs.lemmas.Bool.{le-leb, and_parts, and_from}
 use Rattle.heights.specs.Meaning.{Storage}
@@ -7,7 +8,8 @@ use Rattle.counters.specs.Calls.{View}
 use Rattle.grid.specs.declared.Plan.{Plan}
 use Rattle.grid.specs.declared.CellRecord.{CellRecord}
 use Rattle.grid.specs.Terrain.{heights_of}
-use Rattle.siting_box.specs.Contents.{Contents, contents, lawful_sizes, fits_in, well_fitted, plan_terrain}
+use Rattle.grid.specs.Sizes.{lawful_sizes}
+use Rattle.siting_box.specs.Contents.{Contents, contents, fits_in, well_fitted, plan_terrain}
 use Rattle.siting_box.specs.Fresh.{fresh}
 use Rattle.siting_box.specs.Calls.{Opened, AlteredPlan, SweptPlan, with_row}
 use Rattle.siting_box.proofs.Plans.{fitting}
@@ -22,9 +24,6 @@ pub record Paired {X Y : Type 0} (P : X → Y → Type 0) (b : Contents X) (b' :
   pub fitted : length b.records ≡ length b'.records
   pub fits : well_fitted b.plan (length b.records) ≡ true
   pub cells : Pointwise P (plan_terrain b.plan b.records).heights (plan_terrain b'.plan b'.records).heights
-
-pub some_plan : (p q : Plan) → Some p ≡ Some q → p ≡ q
-some_plan p q e = cc
 
 pub contents_are : {X : Type 0} (b : Contents X) (o : Option Plan) (records : List (CellRecord X)) → b.plan ≡ o → b.records ≡ records → contents o records ≡ b
 contents_are b o records e f = ap (λ q. contents q records) (sym e) ∙ ap (contents b.plan) (sym f)
@@ -100,7 +99,7 @@ module _ {X Y : Type 0} (P : X → Y → Type 0) where
       → (a : AlteredPlan k le x y bytes before after) (a' : AlteredPlan k' le' x y bytes' before' after') → P a.height a'.height → Paired P after after'
   altered_paired k k' le le' x y bytes bytes' before after before' after' h a a' pair =
       let p = a.plan in
-      let e : a'.plan ≡ a.plan = some_plan a'.plan a.plan (sym a'.plan_is ∙ sym h.plans ∙ a.plan_is) in
+      let e : a'.plan ≡ a.plan = same_Some a'.plan a.plan (sym a'.plan_is ∙ sym h.plans ∙ a.plan_is) in
       let n = p.width * p.rows in
       let fit : fits_in p (length before.records) ≡ true = plan_fits before before' p h a.plan_is in
       let plan-after' : after'.plan ≡ Some p = a'.plan_after ∙ ap Some e in
@@ -119,7 +118,7 @@ module _ {X Y : Type 0} (P : X → Y → Type 0) where
       → (s : SweptPlan le before after old new mileage) (s' : SweptPlan le' before' after' old' new' mileage') → s.plan.swept < s.plan.rows → Paired P after after'
   swept_paired le le' before after before' after' old new old' new' mileage mileage' h s s' left =
       let p = s.plan in
-      let e : s'.plan ≡ s.plan = some_plan s'.plan s.plan (sym s'.plan_is ∙ sym h.plans ∙ s.plan_is) in
+      let e : s'.plan ≡ s.plan = same_Some s'.plan s.plan (sym s'.plan_is ∙ sym h.plans ∙ s.plan_is) in
       let n = p.width * p.rows in
       let fit : fits_in p (length before.records) ≡ true = plan_fits before before' p h s.plan_is in
       let parts = and_parts (lawful_sizes p.width p.rows p.radius) _ fit in

@@ -1,28 +1,24 @@
 -- Equal denials show the same.
 use Rattle.std.proofs.Common.{◌≡◌, ℕ, Bool, true, false, List, [], ◌∷◌, Some, None, Option, sym, refl, ap, ◌∙◌, arith}
+use Rattle.std.proofs.lemmas.Option.{same_Some, none-some}
 use Rattle.std.specs.List.{AllByRecursion as All}
 use Rattle.grid.specs.declared.Place.{Place}
 use Rattle.siting_box.specs.declared.denial.Denial.{Denial}
 use Rattle.siting_box.specs.declared.denial.Denial.TheVariants.{NoPlan, Sizes, TooFewRecords, Outside, StoredLength, Unread, NoRowLeft, TooFewPlaces, NotSwept, RowsLeft}
 use Rattle.siting_box.specs.Denials.{number, first_no}
 use Rattle.siting_box.specs.Calls.{Carries}
+use Rattle.agreement.proofs.Places.{place_same}
 use Rattle.runs.specs.Running.{denied, cell_of}
-
-pub nothing : {A : Type 0} (a : A) → Some a ≡ None → ⊥
-nothing a e = let z : ◌≡◌ {A = ℕ} 0 1 = cc in omega arith
-
-pub same_some : (a b : ℕ) → Some a ≡ Some b → a ≡ b
-same_some a b e = cc
 
 -- a question of a call that was not denied was answered yes
 yes : (n : ℕ) (t : Bool) (questions : List (ℕ × Bool)) → first_no ((n, t) ∷ questions) ≡ None → (t ≡ true) × (first_no questions ≡ None)
 yes n true questions e = (refl, e)
-yes n false questions e = absurd (nothing n e)
+yes n false questions e = absurd (none-some n (sym e))
 
 -- so was a question before the one that denied
 past : (n m : ℕ) (t : Bool) (questions : List (ℕ × Bool)) → (n ≡ m → ⊥) → first_no ((n, t) ∷ questions) ≡ Some m → (t ≡ true) × (first_no questions ≡ Some m)
 past n m true questions ne e = (refl, e)
-past n m false questions ne e = absurd (ne (same_some n m e))
+past n m false questions ne e = absurd (ne (same_Some n m e))
 
 -- all questions of a call that was not denied were answered yes
 pub all_yes : (questions : List (ℕ × Bool)) → first_no questions ≡ None → All (λ (q : ℕ × Bool). q.1 ≡ true) questions
@@ -38,7 +34,7 @@ six a b c d e =
 
 -- a question that is not asked denies nothing
 pub unasked : (m : ℕ) (questions : List (ℕ × Bool)) → All (λ (q : ℕ × Bool). q.0 ≡ m → ⊥) questions → first_no questions ≡ Some m → ⊥
-unasked m [] all e = nothing m (sym e)
+unasked m [] all e = none-some m e
 unasked m (q ∷ questions) all e = unasked m questions all.1 (past q.0 m q.1 questions all.0 e).1
 
 -- only a denial by question 6 carries a cell
@@ -48,17 +44,11 @@ no_cell Sizes ne = refl
 no_cell TooFewRecords ne = refl
 no_cell Outside ne = refl
 no_cell StoredLength ne = refl
-no_cell (Unread c x y) ne = absurd (ne refl)
+no_cell (Unread c at) ne = absurd (ne refl)
 no_cell NoRowLeft ne = refl
 no_cell TooFewPlaces ne = refl
 no_cell NotSwept ne = refl
 no_cell RowsLeft ne = refl
-
-place_same : (x y x' y' : ℕ) → x ≡ x' → y ≡ y' → ◌≡◌ {A = Place} (record { x = x; y = y }) (record { x = x'; y = y' })
-place_same x y x' y' e f =
-    let column : ℕ → Place = λ n. record { x = n; y = y } in
-    let row : ℕ → Place = λ n. record { x = x'; y = n } in
-    ap column e ∙ ap row f
 
 carried : {D : Type 0} (Q : D → (x y : ℕ) → Type 0) (d : Denial D) (x y : ℕ) → number d ≡ 6 → Carries Q d → ((c : D) (x' y' : ℕ) → Q c x' y' → (x ≡ x') × (y ≡ y')) → Some (record { x = x; y = y }) ≡ cell_of d
 carried Q NoPlan x y e v f = absurd (omega arith)
@@ -66,7 +56,7 @@ carried Q Sizes x y e v f = absurd (omega arith)
 carried Q TooFewRecords x y e v f = absurd (omega arith)
 carried Q Outside x y e v f = absurd (omega arith)
 carried Q StoredLength x y e v f = absurd (omega arith)
-carried Q (Unread c x' y') x y e v f = let same = f c x' y' v in ap Some (place_same x y x' y' same.0 same.1)
+carried Q (Unread c at) x y e v f = let same = f c at.x at.y v in ap Some (place_same (record { x = x; y = y }) at same.0 same.1)
 carried Q NoRowLeft x y e v f = absurd (omega arith)
 carried Q TooFewPlaces x y e v f = absurd (omega arith)
 carried Q NotSwept x y e v f = absurd (omega arith)
@@ -80,7 +70,7 @@ module _ {C D : Type 0} (P : C → (x y : ℕ) → Type 0) (Q : D → (x y : ℕ
   same_cell TooFewRecords d' e u v f = sym (no_cell d' (λ s. omega arith))
   same_cell Outside d' e u v f = sym (no_cell d' (λ s. omega arith))
   same_cell StoredLength d' e u v f = sym (no_cell d' (λ s. omega arith))
-  same_cell (Unread c x y) d' e u v f = carried Q d' x y (sym e) v (λ c' x' y' q. f c x y c' x' y' refl u q)
+  same_cell (Unread c at) d' e u v f = carried Q d' at.x at.y (sym e) v (λ c' x' y' q. f c at.x at.y c' x' y' refl u q)
   same_cell NoRowLeft d' e u v f = sym (no_cell d' (λ s. omega arith))
   same_cell TooFewPlaces d' e u v f = sym (no_cell d' (λ s. omega arith))
   same_cell NotSwept d' e u v f = sym (no_cell d' (λ s. omega arith))

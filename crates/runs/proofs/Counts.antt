@@ -1,12 +1,10 @@
 -- The counts on record of paired boxes are equal.
-use Rattle.std.proofs.Common.{◌≡◌, ℕ, ◌*◌, ◌<◌, ◌≤◌, Bool, true, cond, ltb, List, map, length, get_or, take, Some, None, Option, sym, refl, ap, ◌∙◌, subst, mul_comm, arith}
-use Rattle.std.specs.Option.{option_map}
-use Rattle.std.specs.List.{slice_get}
+use Rattle.std.proofs.Common.{◌≡◌, ℕ, ◌*◌, ◌<◌, ◌≤◌, Bool, true, cond, ltb, List, length, get_or, take, Some, None, Option, sym, refl, ap, ◌∙◌, subst, mul_comm, arith}
 use Rattle.std.proofs.lemmas.Nat.{div_below, mod_below}
-use Rattle.std.proofs.lemmas.List.{same_lists, get_or-map, get_or-take, length-map, length-take-le}
+use Rattle.std.proofs.lemmas.List.{same_lists, length-map, length-take-le}
 use Rattle.grid.specs.declared.Plan.{Plan}
 use Rattle.grid.specs.declared.CellRecord.{CellRecord}
-use Rattle.grid.specs.Terrain.{Inside, reading_index}
+use Rattle.grid.specs.Terrain.{Inside}
 use Rattle.grid.specs.Window.{count_at}
 use Rattle.siting_box.specs.Contents.{Contents, contents, fits_in, well_fitted, plan_terrain, Counted, counts_of, counts_on}
 use Rattle.siting_box.specs.Searching.{place_of}

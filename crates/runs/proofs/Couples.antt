@@ -1,5 +1,7 @@
 -- Lists whose elements at the same index are partners.
-use Rattle.std.proofs.Common.{◌≡◌, ℕ, zero, suc, Bool, List, [], ◌∷◌, ◌++◌, map, length, set, Some, None, Option, refl, ap, arith}
+use Rattle.std.proofs.Common.{◌≡◌, ℕ, zero, suc, Bool, List, [], ◌∷◌, ◌++◌, map, length, set, Some, None, Option, refl, ap, ◌∙◌}
+use Rattle.std.specs.Option.{option_map}
+use Rattle.std.proofs.lemmas.Option.{slice_get-map}
 use Rattle.std.specs.List.{slice_get}
 use Rattle.grid.specs.Window.{is_not_higher}
 use Rattle.runs.specs.Pointwise.{Pointwise}
@@ -17,9 +19,7 @@ Compares {X} {Y} le le' P = (a b : X) (a' b' : Y) → P a a' → P b b' → le a
 
 -- what a function makes of an element of a list
 pub nth_map : {A B : Type 0} (f : A → B) (xs : List A) (i : ℕ) (x : A) → slice_get xs i ≡ Some x → slice_get (map f xs) i ≡ Some (f x)
-nth_map f [] i x e = let z : ◌≡◌ {A = ℕ} 0 1 = cc in absurd (omega arith)
-nth_map f (y ∷ xs) zero x e = let same : y ≡ x = cc in ap (λ z. Some (f z)) same
-nth_map f (y ∷ xs) (suc i) x e = nth_map f xs i x e
+nth_map f xs i x e = slice_get-map f xs i ∙ ap (option_map f) e
 
 module _ {X Y : Type 0} (P : X → Y → Type 0) where
   pub both_length : (xs : List X) (ys : List Y) → Pointwise P xs ys → length xs ≡ length ys

@@ -3,7 +3,8 @@ use Rattle.std.proofs.Common.{◌≡◌, ℕ, ◌*◌, Bool, true, false, cond, 
 use Rattle.std.proofs.lemmas.Bool.{eqb-true, true≢false}
 use Rattle.heights.specs.Meaning.{Storage}
 use Rattle.grid.specs.declared.Plan.{Plan}
-use Rattle.siting_box.specs.Contents.{Contents, lawful_sizes}
+use Rattle.grid.specs.Sizes.{lawful_sizes}
+use Rattle.siting_box.specs.Contents.{Contents}
 use Rattle.siting_box.specs.Stored.{stored_at, read_first}
 use Rattle.siting_box.specs.Denials.{first_no}
 use Rattle.siting_box.specs.Calls.{has_cell, open_questions, alter_questions}

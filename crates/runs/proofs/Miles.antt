@@ -1,5 +1,6 @@
 -- Partnered sweeps with finger lists take equal steps.
 use Rattle.std.proofs.Common.{◌≡◌, ℕ, ◌*◌, Bool, true, take, Some, sym, ◌∙◌, subst}
+use Rattle.std.proofs.lemmas.Option.{same_Some}
 use Rattle.heights.specs.Order.{Preorder}
 use Rattle.counters.specs.Calls.{View}
 use Rattle.counters.specs.Fingers.{by_fingers}
@@ -10,7 +11,7 @@ use Rattle.ceiling.proofs.Comparing.{equal_steps}
 use Rattle.siting_box.specs.Contents.{Contents, plan_terrain}
 use Rattle.siting_box.specs.Calls.{SweptPlan}
 use Rattle.runs.proofs.Couples.{Compares}
-use Rattle.runs.proofs.Boxes.{Paired, some_plan}
+use Rattle.runs.proofs.Boxes.{Paired}
 use Rattle.runs.proofs.Grids.{paired_alike}
 
 -- an accepted sweep with a finger list swept a row of the box's grid
@@ -29,7 +30,7 @@ pub swept_miles : {X Y : Type 0} (P : X → Y → Type 0) (le : X → X → Bool
     → SweptPlan le before after old new mileage → SweptPlan le' before' after' old' new' mileage' → by_fingers old.rule ≡ true → by_fingers old'.rule ≡ true → mileage ≡ mileage'
 swept_miles P le le' ordered ordered' iso before after before' after' old new old' new' mileage mileage' h s s' fingers fingers' =
     let p = s.plan in
-    let e : s'.plan ≡ p = some_plan s'.plan p (sym s'.plan_is ∙ sym h.plans ∙ s.plan_is) in
+    let e : s'.plan ≡ p = same_Some s'.plan p (sym s'.plan_is ∙ sym h.plans ∙ s.plan_is) in
     let alike = paired_alike P le le' before before' iso h in
     let alike_at : Alike le le' (plan_terrain (Some p) before.records) (plan_terrain (Some p) before'.records) =
     subst (λ o. Alike le le' (plan_terrain (Some p) before.records) (plan_terrain o before'.records)) (sym h.plans ∙ s.plan_is) (subst (λ o. Alike le le' (plan_terrain o before.records) (plan_terrain before'.plan before'.records)) s.plan_is alike) in

@@ -1,5 +1,6 @@
 -- Two boxes that are called alike show the same after each call.
-use Rattle.std.proofs.Common.{◌≡◌, ℕ, suc, ◌<◌, Bool, List, [], ◌∷◌, ◌++◌, length, Some, sym, refl, ap, ◌∙◌, subst, arith}
+use Rattle.std.proofs.Common.{◌≡◌, ℕ, suc, ◌<◌, Bool, List, [], ◌∷◌, length, Some, sym, refl, ap, ◌∙◌, subst, arith}
+use Rattle.std.proofs.lemmas.Option.{same_Some}
 use Rattle.std.specs.List.{slice_get}
 use Rattle.heights.specs.Meaning.{Storage}
 use Rattle.grid.specs.declared.CellRecord.{CellRecord}
@@ -13,7 +14,6 @@ use Rattle.runs.proofs.Couples.{Compares}
 use Rattle.runs.proofs.Readings.{Coupled, coupled}
 use Rattle.runs.proofs.Boxes.{Paired, new_paired, same_paired, fits'}
 use Rattle.runs.proofs.Counts.{paired_counts}
-use Rattle.runs.proofs.Cells.{same_some}
 use Rattle.runs.proofs.Steps.{step_together, step_keeps}
 
 -- the counts of a new box are the defined ones: it has no cell
@@ -81,7 +81,7 @@ module _ {X C Y D : Type 0} (P : X → Y → Type 0) (k : Storage X C) (k' : Sto
   runs_together (c ∷ calls) (c' ∷ calls') (n ∷ places) (n' ∷ places') [] sights' b last b' last' long alike equal h counted counted' r r' = absurd r
   runs_together (c ∷ calls) (c' ∷ calls') (n ∷ places) (n' ∷ places') (s ∷ sights) [] b last b' last' long alike equal h counted counted' r r' = absurd r'
   runs_together (c ∷ calls) (c' ∷ calls') (n ∷ places) (n' ∷ places') (s ∷ sights) (s' ∷ sights') b last b' last' long alike equal h counted counted' r r' =
-      let now = turn_together c c' n n' b r.0 b' r'.0 s s' (alike 0 c c' refl refl) (λ sweep. same_some n n' (equal 0 c refl sweep)) h counted counted' r.1 r'.1 in
+      let now = turn_together c c' n n' b r.0 b' r'.0 s s' (alike 0 c c' refl refl) (λ sweep. same_Some n n' (equal 0 c refl sweep)) h counted counted' r.1 r'.1 in
       let rest = runs_together calls calls' places places' sights sights' r.0 last r'.0 last' (omega arith) (λ i. alike (suc i)) (λ i. equal (suc i)) now.paired now.counted now.counted' r.2 r'.2 in
       record {
         seen = ap (λ t. t ∷ sights) now.seen ∙ ap (λ t. s' ∷ t) rest.seen;
@@ -102,12 +102,3 @@ matched_runs k k' le le' records records' calls calls' places places' sights sig
 pub boxes_agree : {X C Y D : Type 0} (k : Storage X C) (k' : Storage Y D) (le : X → X → Bool) (le' : Y → Y → Bool) → BoxesAgree k k' le le'
 boxes_agree k k' le le' records records' calls calls' places places' sights sights' last last' fitted m equal r r' =
     (matched_runs k k' le le' records records' calls calls' places places' sights sights' last last' fitted m equal r r').seen
-
--- a run and one call more
-pub run_push : {X C : Type 0} (k : Storage X C) (le : X → X → Bool) (calls : List Call) (places : List ℕ) (sights : List Sight) (b last after : Contents X) (c : Call) (n : ℕ) (s : Sight) → Run k le b calls places sights last → Turn k le c n last after s → Run k le b (calls ++ c ∷ []) (places ++ n ∷ []) (sights ++ s ∷ []) after
-run_push k le [] [] [] b last after c n s r t = (after, subst (λ start. Turn k le c n start after s) r t, refl)
-run_push k le [] [] (s₀ ∷ sights) b last after c n s r t = absurd r
-run_push k le [] (n₀ ∷ places) sights b last after c n s r t = absurd r
-run_push k le (c₀ ∷ calls) [] sights b last after c n s r t = absurd r
-run_push k le (c₀ ∷ calls) (n₀ ∷ places) [] b last after c n s r t = absurd r
-run_push k le (c₀ ∷ calls) (n₀ ∷ places) (s₀ ∷ sights) b last after c n s r t = (r.0, r.1, run_push k le calls places sights r.0 last after c n s r.2 t)

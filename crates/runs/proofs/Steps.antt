@@ -1,7 +1,7 @@
 -- Partnered calls on paired boxes show the same and leave paired boxes.
-use Rattle.std.proofs.Common.{◌≡◌, ℕ, ◌+◌, ◌*◌, ◌/◌, ◌%◌, ◌<◌, Bool, true, eqb, ltb, leb, List, [], ◌∷◌, length, is_some, is_ok, Some, None, Ok, Err, sum, Option, Result, sym, refl, ap, ◌∙◌, subst, arith}
+use Rattle.std.proofs.Common.{◌≡◌, ℕ, ◌+◌, ◌*◌, ◌<◌, Bool, true, eqb, ltb, leb, List, [], ◌∷◌, length, is_some, is_ok, Some, None, Ok, Err, sum, Option, Result, sym, refl, ap, ◌∙◌, subst, arith}
+use Rattle.std.proofs.lemmas.Option.{same_Some, none-some}
 use Rattle.std.specs.List.{AllByRecursion as All}
-use Rattle.std.proofs.lemmas.Nat.{div-mul-add, mod-mul-add}
 use Rattle.std.proofs.lemmas.Bool.{and_parts, ltb-true, true≢false}
 use Rattle.heights.specs.Meaning.{Storage}
 use Rattle.counters.specs.Calls.{View}
@@ -12,12 +12,14 @@ use Rattle.grid.specs.Terrain.{Inside}
 use Rattle.grid.specs.Window.{count_at, window_size, share_at}
 use Rattle.siting_box.specs.declared.denial.Denial.{Denial}
 use Rattle.siting_box.specs.declared.told.Told.{Told}
-use Rattle.siting_box.specs.Contents.{Contents, lawful_sizes, well_fitted, plan_terrain, radius_of, is_swept, all_swept, Counted, total_on}
+use Rattle.grid.specs.Sizes.{lawful_sizes}
+use Rattle.siting_box.specs.Contents.{Contents, well_fitted, plan_terrain, radius_of, is_swept, all_swept, Counted, total_on}
 use Rattle.siting_box.specs.Stored.{read_first}
 use Rattle.siting_box.specs.Denials.{number, denied_by, first_no}
 use Rattle.siting_box.specs.Calls.{has_cell, row_left, has_places, open_questions, OpenLeaves, FirstUnread, alter_questions, AlterLeaves, CellUnread, sweep_questions, SweepLeaves, tell_questions, TellAnswer, share_questions, ShareAnswer, nearest_questions, NearestAnswer, total_questions}
 use Rattle.siting_box.proofs.Counting.{open_keeps, alter_keeps, sweep_keeps}
 use Rattle.grid.specs.Alike.{Alike}
+use Rattle.agreement.proofs.Places.{same_index}
 use Rattle.agreement.proofs.Ranks.{counts_agree, nearest_agree}
 use Rattle.runs.specs.Calling.{Form, opens, alters, sweeps, tells, shares, nears, totals, brings}
 use Rattle.runs.specs.Running.{Outcome, denied, done, swept, told, shared, nearest, cell_of, outcome_of, total_shows, StepOf}
@@ -27,7 +29,7 @@ use Rattle.runs.proofs.Denials.{open_alike, alter_alike, alter_reads}
 use Rattle.runs.proofs.Boxes.{Paired, same_paired, opened_paired, altered_paired, swept_paired}
 use Rattle.runs.proofs.Grids.{paired_alike}
 use Rattle.runs.proofs.Counts.{paired_counts}
-use Rattle.runs.proofs.Cells.{nothing, same_some, all_yes, six, unasked, no_cell, same_cell, same_denied}
+use Rattle.runs.proofs.Cells.{all_yes, six, unasked, no_cell, same_cell, same_denied}
 
 -- after two calls the boxes are paired, and the outcomes are equal
 pub record Together {X Y : Type 0} (P : X → Y → Type 0) (after : Contents X) (after' : Contents Y) (outcome outcome' : Outcome) : Type 0 where
@@ -37,7 +39,8 @@ pub record Together {X Y : Type 0} (P : X → Y → Type 0) (after : Contents X)
 -- the column and the row of an index
 same_place : (width x y x' y' : ℕ) → x < width → x' < width → y * width + x ≡ y' * width + x' → (x ≡ x') × (y ≡ y')
 same_place width x y x' y' h h' e =
-    (sym (mod-mul-add y width x h) ∙ ap (λ n. n % width) e ∙ mod-mul-add y' width x' h', sym (div-mul-add y width x h) ∙ ap (λ n. n / width) e ∙ div-mul-add y' width x' h')
+    let same = same_index width (record { x = x; y = y }) (record { x = x'; y = y' }) h h' e in
+    (ap (λ (p : Place). p.x) same, ap (λ (p : Place). p.y) same)
 
 -- a cell of the plan lies in its grid
 has_inside : {X : Type 0} (o : Option Plan) (records : List (CellRecord X)) (x y : ℕ) → has_cell o x y ≡ true → Inside (plan_terrain o records) (record { x = x; y = y })
@@ -57,10 +60,10 @@ module _ {X C Y D : Type 0} (P : X → Y → Type 0) (k : Storage X C) (k' : Sto
       let read = first_alike P k k' bytes bytes' (width * rows) (c.readings asked.1.1.0) in
       let both = heights_alike P (read_first k bytes (width * rows)) (read_first k' bytes' (width * rows)) l.heights l'.heights read l.read l'.read in
       record { paired = opened_paired P k k' width rows radius bytes bytes' before after before' after' h.fitted asked.0 asked.1.0 l l' both; outcomes = refl }
-  open_together width rows radius bytes bytes' c (Ok a) (Err d') q q' l l' = absurd (nothing (number d') (q' ∙ sym (open_alike P k k' before before' width rows radius bytes bytes' h.fitted c) ∙ sym q))
-  open_together width rows radius bytes bytes' c (Err d) (Ok a') q q' l l' = absurd (nothing (number d) (q ∙ open_alike P k k' before before' width rows radius bytes bytes' h.fitted c ∙ sym q'))
+  open_together width rows radius bytes bytes' c (Ok a) (Err d') q q' l l' = absurd (none-some (number d') (sym (q' ∙ sym (open_alike P k k' before before' width rows radius bytes bytes' h.fitted c) ∙ sym q)))
+  open_together width rows radius bytes bytes' c (Err d) (Ok a') q q' l l' = absurd (none-some (number d) (sym (q ∙ open_alike P k k' before before' width rows radius bytes bytes' h.fitted c ∙ sym q')))
   open_together width rows radius bytes bytes' c (Err d) (Err d') q q' l l' =
-      let n : number d ≡ number d' = same_some (number d) (number d') (q ∙ open_alike P k k' before before' width rows radius bytes bytes' h.fitted c ∙ sym q') in
+      let n : number d ≡ number d' = same_Some (number d) (number d') (q ∙ open_alike P k k' before before' width rows radius bytes bytes' h.fitted c ∙ sym q') in
       denied_together d d' l.0 l'.0 n
       (same_cell (FirstUnread k width rows bytes) (FirstUnread k' width rows bytes') d d' n l.1 l'.1
       (λ cause x y cause' x' y' is-six u v.
@@ -74,10 +77,10 @@ module _ {X C Y D : Type 0} (P : X → Y → Type 0) (k : Storage X C) (k' : Sto
       let asked = all_yes (alter_questions k before x y bytes) (sym q) in
       let pair = one_height P (k.reads bytes) (k'.reads bytes') l.height l'.height (alter_reads P k k' bytes bytes' c asked.1.1.0) l.read l'.read in
       record { paired = altered_paired P k k' le le' x y bytes bytes' before after before' after' h l l' pair; outcomes = refl }
-  alter_together x y bytes bytes' c (Ok a) (Err d') q q' l l' = absurd (nothing (number d') (q' ∙ sym (alter_alike P k k' before before' x y bytes bytes' h.plans c) ∙ sym q))
-  alter_together x y bytes bytes' c (Err d) (Ok a') q q' l l' = absurd (nothing (number d) (q ∙ alter_alike P k k' before before' x y bytes bytes' h.plans c ∙ sym q'))
+  alter_together x y bytes bytes' c (Ok a) (Err d') q q' l l' = absurd (none-some (number d') (sym (q' ∙ sym (alter_alike P k k' before before' x y bytes bytes' h.plans c) ∙ sym q)))
+  alter_together x y bytes bytes' c (Err d) (Ok a') q q' l l' = absurd (none-some (number d) (sym (q ∙ alter_alike P k k' before before' x y bytes bytes' h.plans c ∙ sym q')))
   alter_together x y bytes bytes' c (Err d) (Err d') q q' l l' =
-      let n : number d ≡ number d' = same_some (number d) (number d') (q ∙ alter_alike P k k' before before' x y bytes bytes' h.plans c ∙ sym q') in
+      let n : number d ≡ number d' = same_Some (number d) (number d') (q ∙ alter_alike P k k' before before' x y bytes bytes' h.plans c ∙ sym q') in
       denied_together d d' l.0 l'.0 n
       (same_cell (CellUnread k x y bytes) (CellUnread k' x y bytes') d d' n l.1 l'.1 (λ cause x₁ y₁ cause' x₂ y₂ six u v. (u.1 ∙ sym v.1, u.2 ∙ sym v.2)))
 
@@ -90,10 +93,10 @@ module _ {X C Y D : Type 0} (P : X → Y → Type 0) (k : Storage X C) (k' : Sto
       let asked = all_yes (sweep_questions before old.places) (sym q) in
       let left : ltb l.plan.swept l.plan.rows ≡ true = ap row_left (sym l.plan_is) ∙ asked.1.0 in
       record { paired = swept_paired P le le' before after before' after' old new old' new' m m' h l l' (ltb-true l.plan.swept l.plan.rows left); outcomes = refl }
-  sweep_together old new old' new' e (Ok m) (Err d') q q' l l' = absurd (nothing (number d') (q' ∙ ap (λ n. first_no (sweep_questions before' n)) (sym e) ∙ sym (sweep_alike old.places) ∙ sym q))
-  sweep_together old new old' new' e (Err d) (Ok m') q q' l l' = absurd (nothing (number d) (q ∙ sweep_alike old.places ∙ ap (λ n. first_no (sweep_questions before' n)) e ∙ sym q'))
+  sweep_together old new old' new' e (Ok m) (Err d') q q' l l' = absurd (none-some (number d') (sym (q' ∙ ap (λ n. first_no (sweep_questions before' n)) (sym e) ∙ sym (sweep_alike old.places) ∙ sym q)))
+  sweep_together old new old' new' e (Err d) (Ok m') q q' l l' = absurd (none-some (number d) (sym (q ∙ sweep_alike old.places ∙ ap (λ n. first_no (sweep_questions before' n)) e ∙ sym q')))
   sweep_together old new old' new' e (Err d) (Err d') q q' l l' =
-      let n : number d ≡ number d' = same_some (number d) (number d') (q ∙ sweep_alike old.places ∙ ap (λ m. first_no (sweep_questions before' m)) e ∙ sym q') in
+      let n : number d ≡ number d' = same_Some (number d) (number d') (q ∙ sweep_alike old.places ∙ ap (λ m. first_no (sweep_questions before' m)) e ∙ sym q') in
       let no_six : number d ≡ 6 → ⊥ = λ six. unasked 6 (sweep_questions before old.places) (λ e. omega arith, (λ e. omega arith, (λ e. omega arith, tt))) (sym q ∙ ap Some six) in
       denied_together d d' l.0 l'.0 n (no_cell d no_six ∙ sym (no_cell d' (λ six. no_six (n ∙ six))))
 
@@ -101,10 +104,10 @@ module _ {X C Y D : Type 0} (P : X → Y → Type 0) (k : Storage X C) (k' : Sto
   asked_together : {A : Type 0} (questions questions' : List (ℕ × Bool)) (Answers : Result A (Denial C) → Type 0) (Answers' : Result A (Denial D) → Type 0) (shows : A → Outcome) → after ≡ before → after' ≡ before' → first_no questions ≡ first_no questions' → All (λ (q : ℕ × Bool). q.0 ≡ 6 → ⊥) questions
       → (first_no questions ≡ None → (a a' : A) → Answers (Ok a) → Answers' (Ok a') → shows a ≡ shows a') → (r : Result A (Denial C)) (r' : Result A (Denial D)) → denied_by r ≡ first_no questions → denied_by r' ≡ first_no questions' → Answers r → Answers' r' → Together P after after' (outcome_of shows r) (outcome_of shows r')
   asked_together questions questions' Answers Answers' shows e e' same others answers (Ok a) (Ok a') q q' l l' = record { paired = same_paired P before after before' after' e e' h; outcomes = answers (sym q) a a' l l' }
-  asked_together questions questions' Answers Answers' shows e e' same others answers (Ok a) (Err d') q q' l l' = absurd (nothing (number d') (q' ∙ sym same ∙ sym q))
-  asked_together questions questions' Answers Answers' shows e e' same others answers (Err d) (Ok a') q q' l l' = absurd (nothing (number d) (q ∙ same ∙ sym q'))
+  asked_together questions questions' Answers Answers' shows e e' same others answers (Ok a) (Err d') q q' l l' = absurd (none-some (number d') (sym (q' ∙ sym same ∙ sym q)))
+  asked_together questions questions' Answers Answers' shows e e' same others answers (Err d) (Ok a') q q' l l' = absurd (none-some (number d) (sym (q ∙ same ∙ sym q')))
   asked_together questions questions' Answers Answers' shows e e' same others answers (Err d) (Err d') q q' l l' =
-      let n : number d ≡ number d' = same_some (number d) (number d') (q ∙ same ∙ sym q') in
+      let n : number d ≡ number d' = same_Some (number d) (number d') (q ∙ same ∙ sym q') in
       let no_six : number d ≡ 6 → ⊥ = λ six. unasked 6 questions others (sym q ∙ ap Some six) in
       denied_together d d' e e' n (no_cell d no_six ∙ sym (no_cell d' (λ six. no_six (n ∙ six))))
 

@@ -30,7 +30,7 @@ cell_of Sizes = None
 cell_of TooFewRecords = None
 cell_of Outside = None
 cell_of StoredLength = None
-cell_of (Unread cause x y) = Some (record { x = x; y = y })
+cell_of (Unread cause at) = Some at
 cell_of NoRowLeft = None
 cell_of TooFewPlaces = None
 cell_of NotSwept = None

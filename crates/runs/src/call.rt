@@ -1,7 +1,8 @@
 //! A call to a siting box, as a value.
 
-// One of the seven calls, with its numbers and the bytes that it brings.
-#[derive(Clone, Copy)]
+// One of the seven calls, with its numbers and the bytes that it brings. Columns and rows are numbers of the call and no `Place`, since
+// calls match by their numbers, and definitions name each.
+#[derive(Clone, Copy, PartialEq, Eq, Debug)]
 pub enum Call<'a> {
     // a plan of these sizes, and its stored heights
     Open {

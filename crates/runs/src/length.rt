@@ -9,8 +9,7 @@ pub fn bytes_brought(call: &Call<'_>) -> usize
     ensures { result ≡ length (brought call.now) }
 {
     match *call {
-        Call::Open { bytes, .. } => bytes.len(),
-        Call::Alter { bytes, .. } => bytes.len(),
+        Call::Open { bytes, .. } | Call::Alter { bytes, .. } => bytes.len(),
         _ => 0,
     }
 }

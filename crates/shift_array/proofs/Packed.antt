@@ -1,13 +1,16 @@
 -- What a change of the used entries does to what a shift array shows.
-use Rattle.std.proofs.Common.{◌≡◌, ℕ, ◌+◌, ◌-◌, ◌<◌, ◌≤◌, Bool, List, ◌∷◌, length, take, sym, refl, ap, subst, arith}
+use Rattle.std.proofs.Common.{◌≡◌, ℕ, ◌+◌, ◌-◌, ◌<◌, ◌≤◌, Bool, List, ◌∷◌, length, take, Ok, Result, Some, Option, sym, refl, ap, ◌∙◌, subst, arith}
+use Rattle.std.specs.Result.{result_ok}
 use Rattle.std.proofs.lemmas.List.{length-take-le}
 use Rattle.heights.specs.Order.{Preorder}
 use Rattle.counters.specs.Held.{level_with}
 use Rattle.counters.specs.Calls.{Did, put, take as taking, places_of, mileage_after}
 use Rattle.counters.proofs.Tallies.{same_length, held_level}
+use Rattle.counters.specs.declared.counter.Refusal.{Refusal}
+use Rattle.shift_array.specs.declared.change.Change.{Change}
 use Rattle.shift_array.specs.declared.entry.Entry.{Entry}
 use Rattle.shift_array.specs.Entries.{heights, Climbing}
-use Rattle.shift_array.specs.Changes.{Grown, Shrunk}
+use Rattle.shift_array.specs.Changes.{Grown, Shrunk, Removed}
 use Rattle.shift_array.specs.Views.{shown, Tidy}
 use Rattle.shift_array.proofs.Weights.{entries_le_heights}
 
@@ -20,10 +23,10 @@ pub room_left : {X : Type 0} (es : List (Entry X)) (used held m : ℕ) → Tidy 
 room_left es used held m t room = omega (arith, used_le_held es used held m t)
 
 -- after a put the memory is tidy
-pub tidy_put : {X : Type 0} (le : X → X → Bool) (es fs : List (Entry X)) (used used' held m s : ℕ) (h : X)
-    → Tidy es used held m → held < places_of (length es) → length fs ≡ length es → used' ≤ used + 1
-    → Grown le (take used es) (take used' fs) h s → Tidy fs used' (held + 1) (mileage_after m s)
-tidy_put le es fs used used' held m s h t room same in' gr = (
+pub tidy_put : {X : Type 0} (le : X → X → Bool) (es fs : List (Entry X)) (used used' held m m' s : ℕ) (h : X)
+    → Tidy es used held m → held < places_of (length es) → length fs ≡ length es → m' ≡ mileage_after m s → used' ≤ used + 1
+    → Grown le (take used es) (take used' fs) h s → Tidy fs used' (held + 1) m'
+tidy_put le es fs used used' held m m' s h t room same told in' gr = (
   omega (arith, room_left es used held m t room),
   gr.positive t.1,
   omega (arith, same_length le (heights (take used' fs)) (h ∷ heights (take used es)) gr.held, t.2),
@@ -32,16 +35,16 @@ tidy_put le es fs used used' held m s h t room same in' gr = (
 )
 
 -- what a put does
-pub did_put : {X : Type 0} (le : X → X → Bool) (es fs : List (Entry X)) (used used' held m s : ℕ) (h : X)
-    → Tidy es used held m → held < places_of (length es) → length fs ≡ length es
+pub did_put : {X : Type 0} (le : X → X → Bool) (es fs : List (Entry X)) (used used' held m m' s : ℕ) (h : X)
+    → Tidy es used held m → held < places_of (length es) → length fs ≡ length es → m' ≡ mileage_after m s
     → Grown le (take used es) (take used' fs) h s → Climbing le (take used es)
-    → (length (heights (take used es)) < places_of (length es)) × Did le (shown es used m) (put h) s (shown fs used' (mileage_after m s))
-did_put le es fs used used' held m s h t room same gr cl = (
+    → (length (heights (take used es)) < places_of (length es)) × Did le (shown es used m) (put h) s (shown fs used' m')
+did_put le es fs used used' held m m' s h t room same told gr cl = (
   omega (arith, t.2),
   record {
     held = gr.held;
     places = ap places_of same;
-    mileage = refl;
+    mileage = told;
     rule = refl;
     few = omega (arith, gr.few, used_le_held es used held m t, length-take-le used es t.0);
     exact = gr.exact t.1 cl;
@@ -49,10 +52,10 @@ did_put le es fs used used' held m s h t room same gr cl = (
 )
 
 -- after a take the memory is tidy
-pub tidy_take : {X : Type 0} (le : X → X → Bool) (es fs : List (Entry X)) (used used' held m s : ℕ) (h : X)
-    → Tidy es used held m → length fs ≡ length es → used' ≤ used
-    → Shrunk le (take used es) (take used' fs) h s → Tidy fs used' (held - 1) (mileage_after m s)
-tidy_take le es fs used used' held m s h t same in' sh = (
+pub tidy_take : {X : Type 0} (le : X → X → Bool) (es fs : List (Entry X)) (used used' held m m' s : ℕ) (h : X)
+    → Tidy es used held m → length fs ≡ length es → m' ≡ mileage_after m s → used' ≤ used
+    → Shrunk le (take used es) (take used' fs) h s → Tidy fs used' (held - 1) m'
+tidy_take le es fs used used' held m m' s h t same told in' sh = (
   omega (arith, t.0),
   sh.positive t.1,
   omega (arith, same_length le (heights (take used es)) (h ∷ heights (take used' fs)) sh.held, t.2),
@@ -61,16 +64,16 @@ tidy_take le es fs used used' held m s h t same in' sh = (
 )
 
 -- what a take does
-pub did_take : {X : Type 0} {le : X → X → Bool} → Preorder le → (es fs : List (Entry X)) (used used' held m s : ℕ) (h : X)
-    → Tidy es used held m → length fs ≡ length es
+pub did_take : {X : Type 0} {le : X → X → Bool} → Preorder le → (es fs : List (Entry X)) (used used' held m m' s : ℕ) (h : X)
+    → Tidy es used held m → length fs ≡ length es → m' ≡ mileage_after m s
     → Shrunk le (take used es) (take used' fs) h s → Climbing le (take used es)
-    → (0 < level_with le (heights (take used es)) h) × Did le (shown es used m) (taking h) s (shown fs used' (mileage_after m s))
-did_take o es fs used used' held m s h t same sh cl = (
+    → (0 < level_with le (heights (take used es)) h) × Did le (shown es used m) (taking h) s (shown fs used' m')
+did_take o es fs used used' held m m' s h t same told sh cl = (
   held_level o (heights (take used es)) (heights (take used' fs)) h sh.held,
   record {
     held = sh.held;
     places = ap places_of same;
-    mileage = refl;
+    mileage = told;
     rule = refl;
     few = omega (arith, sh.few, used_le_held es used held m t, length-take-le used es t.0, t.3);
     exact = sh.exact t.1 cl;
@@ -82,3 +85,8 @@ pub some_held : {X : Type 0} (le : X → X → Bool) (es fs : List (Entry X)) (u
     → Tidy es used held m → Shrunk le (take used es) (take used' fs) h s → 0 < held
 some_held le es fs used used' held m s h t sh =
     omega (arith, same_length le (heights (take used es)) (h ∷ heights (take used' fs)) sh.held, t.2)
+
+-- a removal that was told as done
+pub done_removal : {X : Type 0} (le : X → X → Bool) (es fs : List (Entry X)) (used : ℕ) (h : X) (o : Option Change) (r : Result Change Refusal) (change : Change)
+    → o ≡ result_ok r → r ≡ Ok change → Removed le es fs used h o → Removed le es fs used h (Some change)
+done_removal le es fs used h o r change e ok done = subst (Removed le es fs used h) (e ∙ ap result_ok ok) done

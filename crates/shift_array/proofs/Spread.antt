@@ -10,6 +10,7 @@ use Rattle.counters.proofs.Preorders.{other_way, level_self, level_parts}
 use Rattle.shift_array.specs.declared.entry.Entry.{Entry}
 use Rattle.shift_array.specs.Entries.{heights, Positive, Climbing}
 use Rattle.shift_array.specs.Places.{Stands, Belongs}
+use Rattle.shift_array.proofs.Weights.{sum_none}
 use Rattle.shift_array.proofs.Ordered.{higher_from, higher_above, higher_not_level, none_level, number_level}
 
 -- ---- whether the heights of entries have one level with h
@@ -80,10 +81,7 @@ distinct_entries {le = le} o p (e ∷ es) pos cl =
 
 none_above : {X : Type 0} (le : X → X → Bool) (h : X) (us : List (Entry X))
     → ((k : ℕ) (d : Entry X) → k < length us → le (get_or us k d).height h ≡ true) → sum_by (passing (above le h)) us ≡ 0
-none_above le h [] f = refl
-none_above le h (e ∷ es) f =
-    let g : Bool → ℕ = λ t. cond (not t) 1 0 in
-    omega (arith, sum_by-cons (passing (above le h)) e es, ap g (f 0 e (omega arith)), none_above le h es (λ k d l. f (suc k) d (omega arith)))
+none_above le h us f = sum_none (passing (above le h)) us (λ k d l. ap (λ t. cond (not t) 1 0) (f k d l))
 
 all_above : {X : Type 0} (le : X → X → Bool) (h : X) (us : List (Entry X))
     → ((k : ℕ) (d : Entry X) → k < length us → le (get_or us k d).height h ≡ false) → sum_by (passing (above le h)) us ≡ length us

@@ -15,7 +15,7 @@ pub(crate) struct Change {
     pub(crate) steps: u64,
 }
 
-// Adds a height to the used entries.
+// Adds a height to the used entries. Their number is given beside the slice, since one entry more may be needed.
 pub(crate) fn add<H: Height>(entries: &mut [Entry<H>], used: usize, height: H) -> Change
     requires room { used < length entries.old }
     requires few { length (heights (take used entries.old)) < 2 ^ 31 }
@@ -24,11 +24,7 @@ pub(crate) fn add<H: Height>(entries: &mut [Entry<H>], used: usize, height: H) -
 {
     match find_place(&entries[..used], height) {
         Ok(at) => {
-            let entry = entries[at];
-            entries[at] = Entry {
-                number: entry.number + 1,
-                ..entry
-            };
+            entries[at].number += 1;
             Change { used, steps: 0 }
         }
         Err(at) => {
@@ -47,22 +43,14 @@ pub(crate) fn remove<H: Height>(entries: &mut [Entry<H>], used: usize, height: H
     requires positive { Positive (take used entries.old) }
     ensures { Removed H.Height.not_higher entries.old entries.new used height result }
 {
-    match find_place(&entries[..used], height) {
-        Err(_) => None,
-        Ok(at) => {
-            let entry = entries[at];
-            if entry.number > 1 {
-                entries[at] = Entry {
-                    number: entry.number - 1,
-                    ..entry
-                };
-                return Some(Change { used, steps: 0 });
-            }
-            remove_at(entries, at, used);
-            Some(Change {
-                used: used - 1,
-                steps: (used - 1 - at) as u64,
-            })
-        }
+    let at = find_place(&entries[..used], height).ok()?;
+    if entries[at].number > 1 {
+        entries[at].number -= 1;
+        return Some(Change { used, steps: 0 });
     }
+    remove_at(entries, at, used);
+    Some(Change {
+        used: used - 1,
+        steps: (used - 1 - at) as u64,
+    })
 }

@@ -11,12 +11,9 @@ pub(crate) fn count_up_to<H: Height>(entries: &[Entry<H>], height: H) -> u32
     requires { length (heights entries.now) < 2 ^ 32 }
     ensures { Climbing H.Height.not_higher entries.now → result ≡ up_to H.Height.not_higher (heights entries.now) height }
 {
-    let mut count = 0;
-    for entry in entries {
-        if !entry.height.is_not_higher(height) {
-            return count;
-        }
-        count += entry.number;
-    }
-    count
+    entries
+        .iter()
+        .take_while(|entry| entry.height.is_not_higher(height))
+        .map(|entry| entry.number)
+        .sum()
 }

@@ -6,6 +6,5 @@ mod change;
 mod count;
 pub mod counter;
 pub mod entry;
-mod memory;
 mod place;
 mod shifting;

@@ -16,9 +16,7 @@ pub(crate) fn insert_at<H: Height>(
     requires room { used < length entries.old }
     ensures { take (used + 1) entries.new ≡ insert (take used entries.old) at entry }
 {
-    for i in (at..used).rev() {
-        entries[i + 1] = entries[i];
-    }
+    entries.copy_within(at..used, at + 1);
     entries[at] = entry;
 }
 
@@ -28,7 +26,5 @@ pub(crate) fn remove_at<H: Height>(entries: &mut [Entry<H>], at: usize, used: us
     requires inside { used ≤ length entries.old }
     ensures { take (used - 1) entries.new ≡ remove (take used entries.old) at }
 {
-    for i in at..used - 1 {
-        entries[i] = entries[i + 1];
-    }
+    entries.copy_within(at + 1..used, at);
 }

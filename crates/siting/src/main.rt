@@ -1,10 +1,11 @@
 //! The siting console: reads lines of standard input and answers each as it comes.
 #![tactic(auto)]
 
+ghost use Rattle.siting.specs.Rooms.{HaveRoom};
+
 mod reader;
 
-use console::line::Line;
-use console::session::{choose, serve};
+use console::session::{NO_FORM, choose, serve};
 use console_text::{Answer, CounterLetter, KindLetter, render};
 use counters::counter::Counter;
 use finger_list::list::FingerList;
@@ -12,7 +13,7 @@ use flat_layer::layer::FlatLayer;
 use grid::CellRecord;
 use heights::float::FloatBits;
 use heights::height::HeightKind;
-use reader::Reader;
+use reader::Lines;
 use shift_array::array::ShiftArray;
 use siting_box::SitingBox;
 use std::io;
@@ -28,93 +29,42 @@ fn tell(rt: &HostRuntime, answer: Answer) -> io::Result<()> {
 // Answers lines until one chooses a kind and a counter.
 fn wait_for_choice(
     rt: &HostRuntime,
-    reader: &mut Reader,
-    line: &mut Line,
+    lines: &mut Lines,
 ) -> io::Result<Option<(KindLetter, CounterLetter)>> {
-    for _ in 0..u64::MAX {
-        if !reader.read_line(line)? {
-            break;
-        }
-        if let Some(choice) = choose(line) {
+    for line in lines {
+        if let Some(choice) = choose(&line?) {
             tell(rt, Answer::Done)?;
             return Ok(Some(choice));
         }
-        tell(rt, Answer::Denied { number: 13 })?;
+        tell(rt, Answer::Denied { number: NO_FORM })?;
     }
     Ok(None)
 }
 
-// Answers lines from a box over these records, with the flat layer over this counter. The layer is made here, over any counter:
-// of a counter whose type is written out it would not be covered by the checker.
+// Answers lines from a box over these records, with the flat layer over this counter.
 fn serve_lines<H: HeightKind, C: Counter<Kind = H> + Drop>(
     rt: &HostRuntime,
-    reader: &mut Reader,
-    line: &mut Line,
+    lines: Lines,
     records: &mut [CellRecord<H>],
     counter: C,
 ) -> io::Result<()> {
     let mut siting = SitingBox::new(records);
     let mut layer = FlatLayer::over(counter);
-    for _ in 0..u64::MAX {
-        if !reader.read_line(line)? {
-            break;
-        }
-        tell(rt, serve(&mut siting, &mut layer, line))?;
+    for line in lines {
+        tell(rt, serve(&mut siting, &mut layer, &line?))?;
     }
     Ok(())
 }
 
-// Serves heights in whole metres, with 1,024 records and 1,024 places.
-fn serve_whole(
+// Serves heights of one kind, with 1,024 records and 1,024 places, all of this height as they are made.
+fn serve_kind<H: HeightKind>(
     rt: &HostRuntime,
-    reader: &mut Reader,
-    line: &mut Line,
+    lines: Lines,
     counter: CounterLetter,
-) -> io::Result<()> {
-    let mut records = [CellRecord {
-        height: 0i16,
-        count: 0,
-    }; 1024];
-    match counter {
-        CounterLetter::FingerList => {
-            let mut entries = [finger_list::entry::Entry {
-                height: 0i16,
-                number: 0,
-                next: 0,
-                prev: 0,
-            }; 1027];
-            serve_lines(
-                rt,
-                reader,
-                line,
-                &mut records,
-                FingerList::over(&mut entries),
-            )
-        }
-        CounterLetter::ShiftArray => {
-            let mut entries = [shift_array::entry::Entry {
-                height: 0i16,
-                number: 0,
-            }; 1027];
-            serve_lines(
-                rt,
-                reader,
-                line,
-                &mut records,
-                ShiftArray::over(&mut entries),
-            )
-        }
-    }
-}
-
-// Serves heights in floating-point metres, with 1,024 records and 1,024 places.
-fn serve_float(
-    rt: &HostRuntime,
-    reader: &mut Reader,
-    line: &mut Line,
-    counter: CounterLetter,
-) -> io::Result<()> {
-    let height = FloatBits { bits: 0 };
+    height: H,
+) -> io::Result<()>
+    requires { HaveRoom H.row }
+{
     let mut records = [CellRecord { height, count: 0 }; 1024];
     match counter {
         CounterLetter::FingerList => {
@@ -124,33 +74,22 @@ fn serve_float(
                 next: 0,
                 prev: 0,
             }; 1027];
-            serve_lines(
-                rt,
-                reader,
-                line,
-                &mut records,
-                FingerList::over(&mut entries),
-            )
+            serve_lines(rt, lines, &mut records, FingerList::over(&mut entries))
         }
         CounterLetter::ShiftArray => {
             let mut entries = [shift_array::entry::Entry { height, number: 0 }; 1027];
-            serve_lines(
-                rt,
-                reader,
-                line,
-                &mut records,
-                ShiftArray::over(&mut entries),
-            )
+            serve_lines(rt, lines, &mut records, ShiftArray::over(&mut entries))
         }
     }
 }
 
 fn main(rt: HostRuntime) -> io::Result<()> {
-    let mut reader = Reader::new(rt.stdin());
-    let mut line = Line::new();
-    match wait_for_choice(&rt, &mut reader, &mut line)? {
-        Some((KindLetter::Whole, counter)) => serve_whole(&rt, &mut reader, &mut line, counter),
-        Some((KindLetter::Float, counter)) => serve_float(&rt, &mut reader, &mut line, counter),
+    let mut lines = Lines::of(rt.stdin());
+    match wait_for_choice(&rt, &mut lines)? {
+        Some((KindLetter::Whole, counter)) => serve_kind(&rt, lines, counter, 0i16),
+        Some((KindLetter::Float, counter)) => {
+            serve_kind(&rt, lines, counter, FloatBits { bits: 0 })
+        }
         None => Ok(()),
     }
 }

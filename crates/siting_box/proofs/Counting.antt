@@ -21,17 +21,14 @@ use Rattle.siting_box.specs.Stored.{stored_at, read_more, read_first}
 use Rattle.siting_box.specs.Fresh.{fresh}
 use Rattle.siting_box.specs.declared.denial.Denial.{Denial}
 use Rattle.siting_box.specs.Calls.{Opened, OpenLeaves, AlteredPlan, AlterLeaves, SweptPlan, SweepLeaves, with_row}
-use Rattle.siting_box.proofs.Plans.{fitting, there}
-
-some_same : (a b : ℕ) → Some a ≡ Some b → a ≡ b
-some_same a b e = cc
+use Rattle.siting_box.proofs.Plans.{fitting, there, same_some}
 
 -- ---- open
 
 -- so many heights were read
 more_read : {X C : Type 0} (i : ℕ) (r : Result (List X) (ℕ × C)) (s : Result X C) (hs : List X) → ((gs : List X) → r ≡ Ok gs → length gs ≡ i) → read_more r i s ≡ Ok hs → length hs ≡ suc i
-more_read i (Err e) s hs f e' = let z : ◌≡◌ {A = ℕ} 0 1 = cc in absurd (omega arith)
-more_read i (Ok gs) (Err c) hs f e = let z : ◌≡◌ {A = ℕ} 0 1 = cc in absurd (omega arith)
+more_read i (Err e) s hs f e' = cc
+more_read i (Ok gs) (Err c) hs f e = cc
 more_read i (Ok gs) (Ok h) hs f e =
     let same : gs ++ (h ∷ []) ≡ hs = cc in
     omega (arith, ap length same, length-append gs (h ∷ []), f gs refl)
@@ -105,11 +102,8 @@ module _ {X : Type 0} (le : X → X → Bool) (p : Plan) (old after : List (Cell
       let same : c ≡ found.0 = sym (c-is c) ∙ other_row q inside other c ∙ found.2 c in
       let was : Some found.0.count ≡ Some (cond (ltb q.y p.swept) N 0) = sym (ap (option_map (λ (r : CellRecord X). r.count)) found.1) ∙ counted q inside in
       let tests : ltb q.y p.swept ≡ ltb q.y (p.swept + 1) = later q.y p.swept (ltb q.y p.swept) refl other in
-      ap (λ (r : CellRecord X). r.count) same ∙ some_same _ _ was ∙ ap (λ b. cond b N 0) tests
+      ap (λ (r : CellRecord X). r.count) same ∙ same_some _ _ was ∙ ap (λ b. cond b N 0) tests
     where
-      some_same : (a b : ℕ) → Some a ≡ Some b → a ≡ b
-      some_same a b e = cc
-
       later : (y m : ℕ) (b : Bool) → ltb y m ≡ b → (y ≡ m → ⊥) → ltb y m ≡ ltb y (m + 1)
       later y m true e other = e ∙ sym (let t : ltb y (m + 1) ≡ true = grind (arith, nat_tests) in t)
       later y m false e other =
@@ -184,7 +178,7 @@ module _ {X : Type 0} (le : X → X → Bool) (p : Plan) (old after : List (Cell
       let found = there old i (omega (arith, (fitting p (length old) fit).recorded)) in
       let found' = front_record after (drop (p.width * p.rows) old) i (omega (arith, all_there)) in
       let was : Some found.0.count ≡ Some (cond (ltb q.y p.swept) (count_at le (plan_terrain (Some p) old) p.radius q) 0) = sym (ap (option_map (λ (r : CellRecord X). r.count)) found.1) ∙ counted q inside in
-      let is = mended_on_record q (ltb q.y p.swept) refl inside found.0 found'.0 (λ d. get_or-take (p.width * p.rows) old i d below ∙ found.2 d) found'.2 (some_same _ _ was) in
+      let is = mended_on_record q (ltb q.y p.swept) refl inside found.0 found'.0 (λ d. get_or-take (p.width * p.rows) old i d below ∙ found.2 d) found'.2 (same_some _ _ was) in
       ap (option_map (λ (r : CellRecord X). r.count)) found'.1
       ∙ ap Some is
       ∙ ap (λ t. Some (cond (ltb q.y p.swept) (count_at le t p.radius q) 0)) (sym terrain_after)

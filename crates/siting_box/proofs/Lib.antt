@@ -1,6 +1,5 @@
+pub mod Chunks
 pub mod Counting
-pub mod Matching
-pub mod Places
 pub mod Plans
 pub mod Readings
 pub mod Searches

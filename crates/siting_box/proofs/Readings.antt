@@ -1,14 +1,9 @@
 -- Readings of stored heights one after another.
-use Rattle.std.proofs.Common.{◌≡◌, ℕ, zero, suc, ◌+◌, ◌-◌, ◌*◌, ◌<◌, ◌≤◌, Bool, true, false, List, [], ◌∷◌, ◌++◌, is_ok, Ok, Err, Result, sym, refl, ap, ◌∙◌, add-zero, mul-le-mul_right, add-one, arith}
+use Rattle.std.proofs.Common.{◌≡◌, ℕ, zero, suc, ◌+◌, ◌-◌, ◌<◌, ◌≤◌, Bool, true, false, List, [], ◌∷◌, ◌++◌, is_ok, Ok, Err, Result, sym, refl, ap, ◌∙◌, add-zero, add-one, arith}
+use Rattle.std.proofs.lemmas.Bool.{true≢false}
 use Rattle.heights.specs.Meaning.{Storage}
 use Rattle.siting_box.specs.Stored.{stored_at, read_more, read_first}
 use Rattle.siting_box.specs.Fresh.{ok_heights, heights_read}
-
--- the bytes of a stored height lie within those of more of them
-pub within : (i n w bytes : ℕ) → i < n → n * w ≤ bytes → (i + 1) * w ≤ bytes
-within i n w bytes h e =
-    let grows : (i + 1) * w ≤ n * w = mul-le-mul_right w (omega arith) in
-    omega arith
 
 module _ {X C : Type 0} (k : Storage X C) (bytes : List ℕ) where
   -- one reading more
@@ -47,9 +42,9 @@ module _ {X C : Type 0} (k : Storage X C) (bytes : List ℕ) where
       let p = passed i h (read_first k bytes i) ok in
       (ap is_ok step ∙ p.0, ap ok_heights step ∙ p.1)
 
-  -- where all read, none fails
-  pub none_fails : (i n : ℕ) (c : C) → i < n → is_ok (read_first k bytes n) ≡ true → is_ok (read_first k bytes i) ≡ true → stored_at k bytes i ≡ Err c → ⊥
-  none_fails i n c lt all ok e =
+  -- where all read, each does
+  pub reads : (i n : ℕ) (r : Result X C) → i < n → is_ok (read_first k bytes n) ≡ true → is_ok (read_first k bytes i) ≡ true → stored_at k bytes i ≡ r → is_ok r ≡ true
+  reads i n (Ok h) lt all ok e = refl
+  reads i n (Err c) lt all ok e =
       let z : false ≡ true = sym (ap is_ok (fails i n c lt ok e)) ∙ all in
-      let y : ◌≡◌ {A = ℕ} 0 1 = cc in
-      omega arith
+      absurd (true≢false (sym z))

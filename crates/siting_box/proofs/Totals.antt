@@ -1,26 +1,20 @@
 -- The sum of the counts on record, once all rows are swept.
-use Rattle.std.proofs.Common.{◌≡◌, ℕ, ◌+◌, ◌-◌, ◌*◌, ◌<◌, ◌≤◌, Bool, true, false, cond, eqb, ltb, List, map, length, get_or, take, Some, None, sum, Option, sym, refl, ap, ◌∙◌, subst, arith}
+use Rattle.std.proofs.Common.{◌≡◌, ℕ, ◌+◌, ◌*◌, ◌<◌, ◌≤◌, Bool, true, false, cond, ltb, List, map, length, get_or, take, Some, None, sum, Option, sym, ap, ◌∙◌, arith}
 use Rattle.std.specs.Option.{option_map}
-use Rattle.std.specs.List.{slice_get}
 use Rattle.std.proofs.lemmas.Nat.{mul-add-lt}
 use Rattle.std.proofs.lemmas.List.{get_or-map, get_or-take, length-map, length-take-le}
 use Rattle.std.proofs.lemmas.Bool.{eqb-true, eq-eqb, lt-ltb}
-use Rattle.std.proofs.lemmas.List.Sums.{sum-map, sum_by_more}
 use Rattle.heights.specs.Order.{Preorder}
 use Rattle.grid.specs.declared.Plan.{Plan}
 use Rattle.grid.specs.declared.Place.{Place}
 use Rattle.grid.specs.declared.CellRecord.{CellRecord}
-use Rattle.grid.specs.Terrain.{reading_index}
 use Rattle.grid.specs.Window.{count_at}
 use Rattle.pairs.specs.Totals.{cells_and_pairs}
 use Rattle.pairs.proofs.Grids.{counts_add_up}
 use Rattle.pairs.proofs.Listed.{sum_cells}
-use Rattle.siting_box.specs.Contents.{Contents, contents, fits_in, well_fitted, plan_terrain, radius_of, all_swept, Counted, counts_of, total_on}
+use Rattle.siting_box.specs.Contents.{contents, fits_in, well_fitted, plan_terrain, radius_of, all_swept, cells_of, Counted, counts_of}
 use Rattle.siting_box.specs.Calls.{TellsTotal}
-use Rattle.siting_box.proofs.Plans.{fitting, there}
-
-same_some : (a b : ℕ) → Some a ≡ Some b → a ≡ b
-same_some a b e = cc
+use Rattle.siting_box.proofs.Plans.{fitting, there, same_some}
 
 -- the count on record of a cell of the plan, in a box whose counts are the defined ones
 pub count_recorded : {X : Type 0} (le : X → X → Bool) (p : Plan) (records : List (CellRecord X)) (x y d : ℕ) → fits_in p (length records) ≡ true → x < p.width → y < p.rows → Counted le (contents (Some p) records)
@@ -51,19 +45,15 @@ plan_total {X} {le} ordered p records fit swept counted =
 
 -- the same of a box
 pub total_defined : {X : Type 0} {le : X → X → Bool} → Preorder le → (o : Option Plan) (records : List (CellRecord X)) → well_fitted o (length records) ≡ true → all_swept o ≡ true → Counted le (contents o records) → sum (counts_of o records) ≡ cells_and_pairs le (plan_terrain o records) (radius_of o)
-total_defined ordered None records fit swept counted = let z : ◌≡◌ {A = Bool} false true = swept in let y : ◌≡◌ {A = ℕ} 0 1 = cc in absurd (omega arith)
+total_defined ordered None records fit swept counted = let z : ◌≡◌ {A = Bool} false true = swept in cc
 total_defined ordered (Some p) records fit swept counted = plan_total ordered p records fit (eqb-true p.swept p.rows swept) counted
-
--- one record more
-pub sum_more : {X : Type 0} (f : X → ℕ) (xs : List X) (i : ℕ) (d : X) → i < length xs → sum (map f (take (i + 1) xs)) ≡ sum (map f (take i xs)) + f (get_or xs i d)
-sum_more f xs i d lt = sum-map f (take (i + 1) xs) ∙ sum_by_more f xs i d lt ∙ ap (λ n. n + f (get_or xs i d)) (sym (sum-map f (take i xs)))
 
 -- the answer of total
 pub tells_total : {X : Type 0} {le : X → X → Bool} → Preorder le → (o : Option Plan) (p : Plan) (records : List (CellRecord X)) (total : ℕ) → o ≡ Some p → well_fitted o (length records) ≡ true → p.swept ≡ p.rows
-    → total ≡ sum (map (λ c. c.count) (take (p.width * p.rows - 0) records)) → TellsTotal le (contents o records) total
+    → total ≡ sum (map (λ c. c.count) (take (cells_of o) records)) → TellsTotal le (contents o records) total
 tells_total {X} {le} ordered o p records total e fit swept is =
     let swept_all : all_swept o ≡ true = ap all_swept e ∙ eq-eqb p.swept p.rows swept in
-    let on : total ≡ sum (counts_of o records) = is ∙ ap (λ n. sum (map (λ (c : CellRecord X). c.count) (take n records))) (omega arith) ∙ ap (λ q. sum (counts_of q records)) (sym e) in
+    let on : total ≡ sum (counts_of o records) = is ∙ ap (λ q. sum (map (λ (c : CellRecord X). c.count) (take (cells_of q) records))) e ∙ ap (λ q. sum (counts_of q records)) (sym e) in
     record {
       on_record = on;
       defined = λ counted. on ∙ total_defined ordered o records fit swept_all counted;

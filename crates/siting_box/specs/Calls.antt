@@ -1,5 +1,5 @@
 -- What each call of a box asks, answers and leaves.
-use Rattle.std.specs.Prelude.{◌≡◌, ℕ, ◌+◌, ◌*◌, ◌<◌, Bool, false, ◌&&◌, List, [], ◌∷◌, ◌++◌, map, length, take, drop, is_some, is_ok, Some, None, Ok, Err, Option, Result, ◌==◌, nat_le, nat_lt}
+use Rattle.std.specs.Prelude.{◌≡◌, ℕ, ◌+◌, ◌*◌, ◌<◌, Bool, false, cond, ◌&&◌, List, [], ◌∷◌, ◌++◌, map, length, take, drop, is_some, is_ok, Some, None, Ok, Err, Option, Result, ◌==◌, nat_le, nat_lt}
 use Rattle.heights.specs.Meaning.{Storage}
 use Rattle.counters.specs.Calls.{View}
 use Rattle.grid.specs.declared.Higher.{Higher}
@@ -7,6 +7,7 @@ use Rattle.grid.specs.declared.Place.{Place}
 use Rattle.grid.specs.declared.Plan.{Plan}
 use Rattle.grid.specs.declared.CellRecord.{CellRecord}
 use Rattle.grid.specs.Nearest.{Nearest}
+use Rattle.grid.specs.Sizes.{lawful_sizes}
 use Rattle.grid.specs.Window.{count_at, window_size, share_of, share_at}
 use Rattle.sweep.specs.Sweeping.{places_needed, Swept}
 use Rattle.alteration.specs.Altering.{Altered}
@@ -14,7 +15,7 @@ use Rattle.siting_box.specs.declared.denial.Denial.{Denial}
 use Rattle.siting_box.specs.declared.denial.Denial.TheVariants.{NoPlan, Sizes, TooFewRecords, Outside, StoredLength, Unread, NoRowLeft, TooFewPlaces, NotSwept, RowsLeft}
 use Rattle.siting_box.specs.declared.told.Told.{Told}
 use Rattle.pairs.specs.Totals.{cells_and_pairs}
-use Rattle.siting_box.specs.Contents.{Contents, lawful_sizes, plan_terrain, radius_of, is_swept, all_swept, count_on, total_on, Counted}
+use Rattle.siting_box.specs.Contents.{Contents, plan_terrain, radius_of, is_swept, all_swept, count_on, total_on, Counted}
 use Rattle.siting_box.specs.Stored.{read_first}
 use Rattle.siting_box.specs.Fresh.{fresh}
 
@@ -26,6 +27,11 @@ holds_plan b = is_some b.plan
 abbrev pub has_cell : Option Plan → (x y : ℕ) → Bool
 has_cell None x y = false
 has_cell (Some p) x y = nat_lt x p.width && nat_lt y p.rows
+
+-- the plan that has a place, or why there is none: by question 1 or 4
+abbrev pub plan_with : {C : Type 0} → Option Plan → Place → Result Plan (Denial C)
+plan_with None at = Err NoPlan
+plan_with (Some p) at = cond (has_cell (Some p) at.x at.y) (Ok p) (Err Outside)
 
 -- what open asks: 2 the sizes, 3 the records fitted, 5 the number of bytes, 6 that each stored height reads
 abbrev pub open_questions : {X C : Type 0} → Storage X C → Contents X → (width rows radius : ℕ) → List ℕ → List (ℕ × Bool)
@@ -49,7 +55,7 @@ Carries P Sizes = Unit {0}
 Carries P TooFewRecords = Unit {0}
 Carries P Outside = Unit {0}
 Carries P StoredLength = Unit {0}
-Carries P (Unread cause x y) = P cause x y
+Carries P (Unread cause at) = P cause at.x at.y
 Carries P NoRowLeft = Unit {0}
 Carries P TooFewPlaces = Unit {0}
 Carries P NotSwept = Unit {0}

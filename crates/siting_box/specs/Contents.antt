@@ -7,6 +7,7 @@ use Rattle.grid.specs.declared.CellRecord.{CellRecord}
 use Rattle.grid.specs.declared.Place.{Place}
 use Rattle.grid.specs.Terrain.{Terrain, Inside, reading_index, heights_of}
 use Rattle.grid.specs.Window.{count_at}
+use Rattle.grid.specs.Sizes.{lawful_sizes}
 
 -- the plan, and all records fitted; the plan's cells are the first of them in reading order
 pub record Contents (X : Type 0) : Type 0 where
@@ -16,10 +17,6 @@ pub record Contents (X : Type 0) : Type 0 where
 -- a plan, or none, with records
 abbrev pub contents : {X : Type 0} → Option Plan → List (CellRecord X) → Contents X
 contents plan records = record { plan = plan; records = records }
-
--- columns and rows are 1 to 1,024, and the radius is 1 to 255
-abbrev pub lawful_sizes : (width rows radius : ℕ) → Bool
-lawful_sizes width rows radius = (nat_le 1 width && nat_le width 1024) && ((nat_le 1 rows && nat_le rows 1024) && (nat_le 1 radius && nat_le radius 255))
 
 -- the sizes are lawful, no more rows are swept than there are, and the cells have records among so many
 abbrev pub fits_in : Plan → ℕ → Bool

@@ -1,6 +1,5 @@
 pub mod Denials
 pub mod Contents
-pub mod InParts
 pub mod Boxes
 pub mod Searching
 pub mod Stored

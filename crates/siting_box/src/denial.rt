@@ -2,17 +2,18 @@
 ghost use Rattle.std.specs.Prelude.{◌≡◌};
 ghost use Rattle.siting_box.specs.Denials.{number, layer};
 
+use grid::Place;
 use heights::layer::Layer;
 
 // Why a call was denied.
-#[derive(Clone, Copy)]
+#[derive(Clone, Copy, PartialEq, Eq, Debug)]
 pub enum Denial<C> {
     NoPlan,
     Sizes,
     TooFewRecords,
     Outside,
     StoredLength,
-    Unread { cause: C, x: usize, y: usize },
+    Unread { cause: C, at: Place },
     NoRowLeft,
     TooFewPlaces,
     NotSwept,
@@ -21,6 +22,7 @@ pub enum Denial<C> {
 
 impl<C: Copy> Denial<C> {
     // The number of the question that was answered no.
+    // A `match`, since a variant that holds a cause has no number of its own.
     pub fn number(self) -> u8
         ensures { result ≡ number self }
     {

@@ -3,7 +3,6 @@
 
 mod boxes;
 mod denial;
-mod parts;
 mod search;
 mod stored;
 mod told;

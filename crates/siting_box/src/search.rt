@@ -2,21 +2,13 @@
 ghost use Rattle.std.specs.Prelude.{◌≡◌, ℕ, ◌*◌, ◌^◌, ◌<◌, ◌≤◌, map, length, slice_index_or};
 ghost use Rattle.grid.specs.Terrain.{heights_of};
 ghost use Rattle.grid.specs.Nearest.{Nearest, squared_distance};
-ghost use Rattle.siting_box.specs.Searching.{place_of, nearer_of};
+ghost use Rattle.siting_box.specs.Searching.{place_of};
 
-use grid::{CellRecord, Higher, Place};
+use grid::{CellRecord, Higher, Place, Plan};
 use heights::height::Height;
 
-// The height of the record at an index.
-pub(crate) fn height_at<H: Copy>(records: &[CellRecord<H>], index: usize) -> H
-    requires { index < length records.now }
-    ensures { (d : H) → result ≡ slice_index_or (heights_of records.now) index d }
-{
-    records[index].height
-}
-
 // The place of the cell at an index of reading order.
-fn place_of(width: usize, index: usize) -> Place
+pub(crate) fn place_of(width: usize, index: usize) -> Place
     requires { 0 < width }
     ensures { result ≡ place_of width index }
 {
@@ -37,37 +29,32 @@ fn squared_distance(from: Place, to: Place) -> u64
     columns * columns + rows * rows
 }
 
-// The nearer of the best so far and a cell that comes later in reading order.
-fn nearer(best: Option<Higher>, later: Higher) -> Option<Higher>
-    ensures { result ≡ nearer_of best later }
-{
-    match best {
-        Some(found) if found.distance <= later.distance => best,
-        _ => Some(later),
-    }
-}
-
 // The nearest cell of a grid that is strictly higher than the one at a place.
 pub(crate) fn nearest<H: Height>(
     records: &[CellRecord<H>],
-    width: usize,
-    rows: usize,
+    plan: Plan,
     from: Place,
 ) -> Option<Higher>
-    requires whole { length records.now ≡ width * rows }
-    requires sizes { (width ≤ 1024) × (rows ≤ 1024) }
-    requires inside { (from.x < width) × (from.y < rows) }
-    ensures { Nearest H.Height.not_higher (record { width = width; rows = rows; heights = heights_of records.now }) from result }
+    requires whole { length records.now ≡ plan.width * plan.rows }
+    requires sizes { (plan.width ≤ 1024) × (plan.rows ≤ 1024) }
+    requires inside { (from.x < plan.width) × (from.y < plan.rows) }
+    ensures { Nearest H.Height.not_higher (record { width = plan.width; rows = plan.rows; heights = heights_of records.now }) from result }
 {
-    let own = height_at(records, from.y * width + from.x);
-    let mut best = None;
-    for index in 0..records.len() {
-        let height = height_at(records, index);
-        if !height.is_not_higher(own) {
-            let place = place_of(width, index);
-            let distance = squared_distance(from, place);
-            best = nearer(best, Higher { place, distance });
-        }
-    }
-    best
+    let own = records[from.y * plan.width + from.x].height;
+    records
+        .iter()
+        .enumerate()
+        .filter(|(_, record)| !record.height.is_not_higher(own))
+        .map(
+            |(index, _)|
+                requires { (from.x < plan.width) × (from.x < 2 ^ 20) × (from.y < 2 ^ 20) × (index < 2 ^ 20) }
+            {
+                let place = place_of(plan.width, index);
+                Higher {
+                    place,
+                    distance: squared_distance(from, place),
+                }
+            },
+        )
+        .min_by_key(|higher| higher.distance)
 }

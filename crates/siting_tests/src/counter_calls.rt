@@ -1,4 +1,5 @@
 //! Calls of counters.
+use crate::chance::next_number;
 use counters::counter::{Counter, Refusal};
 use finger_list::list::FingerList;
 use flat_layer::layer::FlatLayer;
@@ -7,17 +8,9 @@ use shift_array::array::ShiftArray;
 use shift_array::entry::Entry;
 use std::process::Abort;
 
-// The number of a refusal, or 0 where the call was accepted.
-fn refused(r: Result<u64, Refusal>) -> u8 {
-    match r {
-        Ok(_) => 0,
-        Err(refusal) => refusal.number(),
-    }
-}
-
-// The steps of an accepted call.
-fn steps(r: Result<u64, Refusal>) -> Option<u64> {
-    r.ok()
+// The steps of an accepted call, or the number of its refusal.
+fn numbered(answer: Result<u64, Refusal>) -> Result<u64, u8> {
+    answer.map_err(Refusal::number)
 }
 
 // Fewer than three entries give no places, and three give none either: such a counter refuses each put and answers 0.
@@ -29,8 +22,8 @@ fn no_places(rt: HostRuntime) {
     }; 2];
     let mut counter = ShiftArray::over(&mut entries);
     assert_eq!(rt; counter.places(), 0);
-    assert_eq!(rt; refused(counter.put(5)), 11);
-    assert_eq!(rt; refused(counter.take(5)), 12);
+    assert_eq!(rt; numbered(counter.put(5)), Err(11));
+    assert_eq!(rt; numbered(counter.take(5)), Err(12));
     assert_eq!(rt; counter.ask(5).count, 0);
     let mut kept = [Entry {
         height: 0i16,
@@ -48,23 +41,23 @@ fn exact_steps(rt: HostRuntime) {
     }; 7];
     let mut counter = ShiftArray::over(&mut entries);
     assert_eq!(rt; counter.places(), 4);
-    assert_eq!(rt; steps(counter.put(7)), Some(0));
-    assert_eq!(rt; steps(counter.put(3)), Some(1));
-    assert_eq!(rt; steps(counter.put(7)), Some(0));
-    assert_eq!(rt; steps(counter.put(5)), Some(1));
-    assert_eq!(rt; refused(counter.put(9)), 11);
-    assert_eq!(rt; refused(counter.take(4)), 12);
+    assert_eq!(rt; numbered(counter.put(7)), Ok(0));
+    assert_eq!(rt; numbered(counter.put(3)), Ok(1));
+    assert_eq!(rt; numbered(counter.put(7)), Ok(0));
+    assert_eq!(rt; numbered(counter.put(5)), Ok(1));
+    assert_eq!(rt; numbered(counter.put(9)), Err(11));
+    assert_eq!(rt; numbered(counter.take(4)), Err(12));
     assert_eq!(rt; counter.ask(6).count, 2);
     assert_eq!(rt; counter.ask(7).count, 4);
     assert_eq!(rt; counter.ask(2).count, 0);
     assert_eq!(rt; counter.mileage(), 2);
-    assert_eq!(rt; steps(counter.take(7)), Some(0));
-    assert_eq!(rt; steps(counter.take(3)), Some(2));
+    assert_eq!(rt; numbered(counter.take(7)), Ok(0));
+    assert_eq!(rt; numbered(counter.take(3)), Ok(2));
     assert_eq!(rt; counter.mileage(), 4);
     counter.begin(0, 0);
     assert_eq!(rt; counter.mileage(), 0);
     assert_eq!(rt; counter.ask(9).count, 0);
-    assert_eq!(rt; refused(counter.take(7)), 12);
+    assert_eq!(rt; numbered(counter.take(7)), Err(12));
 }
 
 // The two float zeros are one height: one is taken for the other.
@@ -77,13 +70,13 @@ fn level_zeros(rt: HostRuntime) {
         number: 0,
     }; 8];
     let mut counter = ShiftArray::over(&mut entries);
-    assert_eq!(rt; steps(counter.put(plus)), Some(0));
-    assert_eq!(rt; steps(counter.put(minus)), Some(0));
+    assert_eq!(rt; numbered(counter.put(plus)), Ok(0));
+    assert_eq!(rt; numbered(counter.put(minus)), Ok(0));
     assert_eq!(rt; counter.ask(minus).count, 2);
-    assert_eq!(rt; steps(counter.take(minus)), Some(0));
+    assert_eq!(rt; numbered(counter.take(minus)), Ok(0));
     assert_eq!(rt; counter.ask(plus).count, 1);
-    assert_eq!(rt; steps(counter.take(minus)), Some(0));
-    assert_eq!(rt; refused(counter.take(plus)), 12);
+    assert_eq!(rt; numbered(counter.take(minus)), Ok(0));
+    assert_eq!(rt; numbered(counter.take(plus)), Err(12));
 }
 
 // Moves of the three fingers: each call goes from where its own finger stands, also where that height is gone.
@@ -98,22 +91,22 @@ fn finger_steps(rt: HostRuntime) {
     let mut list = FingerList::over(&mut entries);
     assert_eq!(rt; list.places(), 4);
     list.begin(5, 3);
-    assert_eq!(rt; steps(list.put(5)), Some(0));
-    assert_eq!(rt; steps(list.put(3)), Some(1));
-    assert_eq!(rt; steps(list.put(9)), Some(1));
-    assert_eq!(rt; steps(list.put(7)), Some(1));
-    assert_eq!(rt; refused(list.put(1)), 11);
+    assert_eq!(rt; numbered(list.put(5)), Ok(0));
+    assert_eq!(rt; numbered(list.put(3)), Ok(1));
+    assert_eq!(rt; numbered(list.put(9)), Ok(1));
+    assert_eq!(rt; numbered(list.put(7)), Ok(1));
+    assert_eq!(rt; numbered(list.put(1)), Err(11));
     assert_eq!(rt; list.ask(3).steps, 0);
     let top = list.ask(9);
     assert!(rt; top.count == 4 && top.steps == 3);
-    assert_eq!(rt; refused(list.take(4)), 12);
-    assert_eq!(rt; steps(list.take(9)), Some(2));
-    assert_eq!(rt; steps(list.take(3)), Some(2));
+    assert_eq!(rt; numbered(list.take(4)), Err(12));
+    assert_eq!(rt; numbered(list.take(9)), Ok(2));
+    assert_eq!(rt; numbered(list.take(3)), Ok(2));
     let low = list.ask(0);
     assert!(rt; low.count == 0 && low.steps == 2);
     assert_eq!(rt; list.mileage(), 12);
-    assert_eq!(rt; steps(list.put(8)), Some(0));
-    assert_eq!(rt; steps(list.put(1)), Some(3));
+    assert_eq!(rt; numbered(list.put(8)), Ok(0));
+    assert_eq!(rt; numbered(list.put(1)), Ok(3));
     list.begin(0, 0);
     assert_eq!(rt; list.mileage(), 0);
     assert_eq!(rt; list.ask(9).count, 0);
@@ -127,15 +120,21 @@ fn alike<A: Counter<Kind = i16>, B: Counter<Kind = i16>>(
     calls: u32,
     heights: u32,
 ) {
-    let mut seed: u32 = 7;
+    let mut seed = 7;
     one.begin(0, 0);
     other.begin(0, 0);
     for _ in 0..calls {
-        seed = seed.wrapping_mul(1664525).wrapping_add(1013904223);
+        seed = next_number(seed);
         let height = (seed / 65536 % 16).min(heights) as i16;
         match seed / 1048576 % 4 {
-            0 | 1 => assert_eq!(rt; refused(one.put(height)), refused(other.put(height))),
-            2 => assert_eq!(rt; refused(one.take(height)), refused(other.take(height))),
+            0 | 1 => assert_eq!(rt;
+                numbered(one.put(height)).err(),
+                numbered(other.put(height)).err()
+            ),
+            2 => assert_eq!(rt;
+                numbered(one.take(height)).err(),
+                numbered(other.take(height)).err()
+            ),
             _ => assert_eq!(rt; one.ask(height).count, other.ask(height).count),
         }
     }

@@ -1,26 +1,14 @@
 //! Sessions over float heights.
-use crate::talk::talk;
-use finger_list::list::FingerList;
-use grid::CellRecord;
+use crate::talk::{talk_with_array, talk_with_fingers};
 use heights::float::FloatBits;
-use shift_array::array::ShiftArray;
 use std::test::Fail;
 
 // The two zeros are level; the smallest numbers beside them are not.
 #[test]
 fn both_zeros(rt: HostRuntime) -> Result<(), Fail> {
-    let mut records = [CellRecord {
-        height: FloatBits { bits: 0 },
-        count: 0,
-    }; 1024];
-    let mut entries = [shift_array::entry::Entry {
-        height: FloatBits { bits: 0 },
-        number: 0,
-    }; 1027];
-    talk(
+    talk_with_array::<FloatBits, 1024, 1027>(
         &rt,
-        &mut records,
-        ShiftArray::over(&mut entries),
+        FloatBits { bits: 0 },
         &[
             ("O 3 1 1 000000008000000000000000", "ok\n"),
             ("S", "ok 0\n"),
@@ -45,18 +33,9 @@ fn both_zeros(rt: HostRuntime) -> Result<(), Fail> {
 // Floats from the lowest to the highest, in reading order.
 #[test]
 fn order_of_floats(rt: HostRuntime) -> Result<(), Fail> {
-    let mut records = [CellRecord {
-        height: FloatBits { bits: 0 },
-        count: 0,
-    }; 1024];
-    let mut entries = [shift_array::entry::Entry {
-        height: FloatBits { bits: 0 },
-        number: 0,
-    }; 1027];
-    talk(
+    talk_with_array::<FloatBits, 1024, 1027>(
         &rt,
-        &mut records,
-        ShiftArray::over(&mut entries),
+        FloatBits { bits: 0 },
         &[
             (
                 "O 4 2 2 FF7FFFFFC2C80000BF80000080000001000000013F80000042C800007F7FFFFF",
@@ -87,18 +66,9 @@ fn order_of_floats(rt: HostRuntime) -> Result<(), Fail> {
 // Infinities and NaNs are denied with the first such cell; the plan before stands.
 #[test]
 fn unreadable_floats(rt: HostRuntime) -> Result<(), Fail> {
-    let mut records = [CellRecord {
-        height: FloatBits { bits: 0 },
-        count: 0,
-    }; 1024];
-    let mut entries = [shift_array::entry::Entry {
-        height: FloatBits { bits: 0 },
-        number: 0,
-    }; 1027];
-    talk(
+    talk_with_array::<FloatBits, 1024, 1027>(
         &rt,
-        &mut records,
-        ShiftArray::over(&mut entries),
+        FloatBits { bits: 0 },
         &[
             ("O 2 2 1 00000000000000007F800000FF800000", "no 6 0 1\n"),
             ("O 2 2 1 00000000FF8000000000000000000000", "no 6 1 0\n"),
@@ -118,20 +88,9 @@ fn unreadable_floats(rt: HostRuntime) -> Result<(), Fail> {
 // Float heights with both zeros, counted by a finger list.
 #[test]
 fn fingers_over_floats(rt: HostRuntime) -> Result<(), Fail> {
-    let mut records = [CellRecord {
-        height: FloatBits { bits: 0 },
-        count: 0,
-    }; 1024];
-    let mut entries = [finger_list::entry::Entry {
-        height: FloatBits { bits: 0 },
-        number: 0,
-        next: 0,
-        prev: 0,
-    }; 1027];
-    talk(
+    talk_with_fingers::<FloatBits, 1024, 1027>(
         &rt,
-        &mut records,
-        FingerList::over(&mut entries),
+        FloatBits { bits: 0 },
         &[
             (
                 "O 4 3 1 00000000BF8000008000000042C800003F80000000000000BF8000008000000042C800003F80000000000000BF800000",

@@ -4,6 +4,8 @@
 #[cfg(test)]
 mod alterations;
 #[cfg(test)]
+mod chance;
+#[cfg(test)]
 mod counter_calls;
 #[cfg(test)]
 mod denials;

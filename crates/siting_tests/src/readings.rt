@@ -1,16 +1,16 @@
 //! Reading stored heights, and lines.
+use crate::talk::line_of;
 use console::line::Line;
 use console::session::choose;
-use heights::finite::FloatCause;
 use heights::float::FloatBits;
 use heights::height::{Height, HeightKind, Unread};
 
-// The cause's number, 0 for a wrong length, or 9 for a height.
-fn fault(bytes: &[u8]) -> u8 {
+// Reads a float height: an error has the number of its cause.
+fn fault(bytes: &[u8]) -> Result<(), Unread<u8>> {
     match <FloatBits as HeightKind>::read(bytes) {
-        Ok(_) => 9,
-        Err(Unread::Length) => 0,
-        Err(Unread::Cause(cause)) => cause.number(),
+        Ok(_) => Ok(()),
+        Err(Unread::Length) => Err(Unread::Length),
+        Err(Unread::Cause(cause)) => Err(Unread::Cause(cause.number())),
     }
 }
 
@@ -35,14 +35,14 @@ fn whole_metres(rt: HostRuntime) {
 #[test]
 fn float_causes(rt: HostRuntime) {
     assert_eq!(rt; <FloatBits as HeightKind>::stored_width(), 4);
-    assert_eq!(rt; fault(&[0x7F, 0x80, 0, 0]), 1);
-    assert_eq!(rt; fault(&[0xFF, 0x80, 0, 0]), 1);
-    assert_eq!(rt; fault(&[0x7F, 0x80, 0, 1]), 2);
-    assert_eq!(rt; fault(&[0xFF, 0xC0, 0, 0]), 2);
-    assert_eq!(rt; fault(&[0x7F, 0x7F, 0xFF, 0xFF]), 9);
-    assert_eq!(rt; fault(&[0xFF, 0x7F, 0xFF, 0xFF]), 9);
-    assert_eq!(rt; fault(&[0, 0, 0]), 0);
-    assert_eq!(rt; fault(&[0, 0, 0, 0, 0]), 0);
+    assert_eq!(rt; fault(&[0x7F, 0x80, 0, 0]), Err(Unread::Cause(1)));
+    assert_eq!(rt; fault(&[0xFF, 0x80, 0, 0]), Err(Unread::Cause(1)));
+    assert_eq!(rt; fault(&[0x7F, 0x80, 0, 1]), Err(Unread::Cause(2)));
+    assert_eq!(rt; fault(&[0xFF, 0xC0, 0, 0]), Err(Unread::Cause(2)));
+    assert_eq!(rt; fault(&[0x7F, 0x7F, 0xFF, 0xFF]), Ok(()));
+    assert_eq!(rt; fault(&[0xFF, 0x7F, 0xFF, 0xFF]), Ok(()));
+    assert_eq!(rt; fault(&[0, 0, 0]), Err(Unread::Length));
+    assert_eq!(rt; fault(&[0, 0, 0, 0, 0]), Err(Unread::Length));
 }
 
 // The order of float patterns goes by their keys, for any 32 bits.
@@ -78,11 +78,7 @@ fn longest_line(rt: HostRuntime) {
 
 // Whether a line chooses a kind and a counter.
 fn chooses(text: &str) -> bool {
-    let mut line = Line::new();
-    for byte in text.bytes() {
-        line.add(byte);
-    }
-    choose(&line).is_some()
+    choose(&line_of(text)).is_some()
 }
 
 // Only K with a kind and a counter chooses them.

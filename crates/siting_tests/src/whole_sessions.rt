@@ -1,25 +1,13 @@
 //! Sessions over whole heights.
-use crate::talk::talk;
-use finger_list::list::FingerList;
-use grid::CellRecord;
-use shift_array::array::ShiftArray;
+use crate::talk::{talk_with_array, talk_with_fingers};
 use std::test::Fail;
 
 // The worked plan in the fewest records and places; calls before the plan, and after the last row.
 #[test]
 fn worked_plan(rt: HostRuntime) -> Result<(), Fail> {
-    let mut records = [CellRecord {
-        height: 0i16,
-        count: 0,
-    }; 6];
-    let mut entries = [shift_array::entry::Entry {
-        height: 0i16,
-        number: 0,
-    }; 9];
-    talk(
+    talk_with_array::<i16, 6, 9>(
         &rt,
-        &mut records,
-        ShiftArray::over(&mut entries),
+        0,
         &[
             ("T 0 0", "no 1\n"),
             ("S", "no 1\n"),
@@ -49,18 +37,9 @@ fn worked_plan(rt: HostRuntime) -> Result<(), Fail> {
 // One record too few denies the plan; a smaller one is opened.
 #[test]
 fn a_record_too_few(rt: HostRuntime) -> Result<(), Fail> {
-    let mut records = [CellRecord {
-        height: 0i16,
-        count: 0,
-    }; 5];
-    let mut entries = [shift_array::entry::Entry {
-        height: 0i16,
-        number: 0,
-    }; 9];
-    talk(
+    talk_with_array::<i16, 5, 9>(
         &rt,
-        &mut records,
-        ShiftArray::over(&mut entries),
+        0,
         &[
             ("O 3 2 1 000500070007000300050009", "no 3\n"),
             ("S", "no 1\n"),
@@ -75,18 +54,9 @@ fn a_record_too_few(rt: HostRuntime) -> Result<(), Fail> {
 // One place too few denies the sweep; a smaller plan is swept.
 #[test]
 fn a_place_too_few(rt: HostRuntime) -> Result<(), Fail> {
-    let mut records = [CellRecord {
-        height: 0i16,
-        count: 0,
-    }; 6];
-    let mut entries = [shift_array::entry::Entry {
-        height: 0i16,
-        number: 0,
-    }; 8];
-    talk(
+    talk_with_array::<i16, 6, 8>(
         &rt,
-        &mut records,
-        ShiftArray::over(&mut entries),
+        0,
         &[
             ("O 3 2 1 000500070007000300050009", "ok\n"),
             ("S", "no 8\n"),
@@ -102,18 +72,9 @@ fn a_place_too_few(rt: HostRuntime) -> Result<(), Fail> {
 // Sizes at and past their limits; a denied open leaves the plan that was there.
 #[test]
 fn limits_of_sizes(rt: HostRuntime) -> Result<(), Fail> {
-    let mut records = [CellRecord {
-        height: 0i16,
-        count: 0,
-    }; 1024];
-    let mut entries = [shift_array::entry::Entry {
-        height: 0i16,
-        number: 0,
-    }; 1027];
-    talk(
+    talk_with_array::<i16, 1024, 1027>(
         &rt,
-        &mut records,
-        ShiftArray::over(&mut entries),
+        0,
         &[
             ("O 1 1 255 0001", "ok\n"),
             ("O 1 1 256 0001", "no 2\n"),
@@ -134,18 +95,9 @@ fn limits_of_sizes(rt: HostRuntime) -> Result<(), Fail> {
 // One cell with the largest radius.
 #[test]
 fn one_cell(rt: HostRuntime) -> Result<(), Fail> {
-    let mut records = [CellRecord {
-        height: 0i16,
-        count: 0,
-    }; 1024];
-    let mut entries = [shift_array::entry::Entry {
-        height: 0i16,
-        number: 0,
-    }; 1027];
-    talk(
+    talk_with_array::<i16, 1024, 1027>(
         &rt,
-        &mut records,
-        ShiftArray::over(&mut entries),
+        0,
         &[
             ("O 1 1 255 8000", "ok\n"),
             ("N 0 0", "no higher ground\n"),
@@ -162,18 +114,9 @@ fn one_cell(rt: HostRuntime) -> Result<(), Fail> {
 // Grids that are narrower than a window.
 #[test]
 fn narrower_than_the_window(rt: HostRuntime) -> Result<(), Fail> {
-    let mut records = [CellRecord {
-        height: 0i16,
-        count: 0,
-    }; 1024];
-    let mut entries = [shift_array::entry::Entry {
-        height: 0i16,
-        number: 0,
-    }; 1027];
-    talk(
+    talk_with_array::<i16, 1024, 1027>(
         &rt,
-        &mut records,
-        ShiftArray::over(&mut entries),
+        0,
         &[
             ("O 2 5 3 00010002000200010003000300000005FFFFFFFF", "ok\n"),
             ("S", "ok 3\n"),
@@ -211,18 +154,9 @@ fn narrower_than_the_window(rt: HostRuntime) -> Result<(), Fail> {
 // Level ground: every cell of a window counts, and no cell is higher.
 #[test]
 fn flat_ground(rt: HostRuntime) -> Result<(), Fail> {
-    let mut records = [CellRecord {
-        height: 0i16,
-        count: 0,
-    }; 1024];
-    let mut entries = [shift_array::entry::Entry {
-        height: 0i16,
-        number: 0,
-    }; 1027];
-    talk(
+    talk_with_array::<i16, 1024, 1027>(
         &rt,
-        &mut records,
-        ShiftArray::over(&mut entries),
+        0,
         &[
             ("O 3 3 1 000700070007000700070007000700070007", "ok\n"),
             ("S", "ok 0\n"),
@@ -253,18 +187,9 @@ fn flat_ground(rt: HostRuntime) -> Result<(), Fail> {
 // Of equally near cells the first in reading order is answered.
 #[test]
 fn ties_of_distance(rt: HostRuntime) -> Result<(), Fail> {
-    let mut records = [CellRecord {
-        height: 0i16,
-        count: 0,
-    }; 1024];
-    let mut entries = [shift_array::entry::Entry {
-        height: 0i16,
-        number: 0,
-    }; 1027];
-    talk(
+    talk_with_array::<i16, 1024, 1027>(
         &rt,
-        &mut records,
-        ShiftArray::over(&mut entries),
+        0,
         &[
             ("O 3 3 1 000000010000000100000001000000010000", "ok\n"),
             ("N 1 1", "1 0 1\n"),
@@ -288,18 +213,9 @@ fn ties_of_distance(rt: HostRuntime) -> Result<(), Fail> {
 // Negative heights lie below positive ones.
 #[test]
 fn below_sea_level(rt: HostRuntime) -> Result<(), Fail> {
-    let mut records = [CellRecord {
-        height: 0i16,
-        count: 0,
-    }; 1024];
-    let mut entries = [shift_array::entry::Entry {
-        height: 0i16,
-        number: 0,
-    }; 1027];
-    talk(
+    talk_with_array::<i16, 1024, 1027>(
         &rt,
-        &mut records,
-        ShiftArray::over(&mut entries),
+        0,
         &[
             ("O 3 1 1 FFFF80007FFF", "ok\n"),
             ("S", "ok 2\n"),
@@ -316,18 +232,9 @@ fn below_sea_level(rt: HostRuntime) -> Result<(), Fail> {
 // Denied calls between others change nothing; a new plan starts unswept.
 #[test]
 fn denied_calls_between(rt: HostRuntime) -> Result<(), Fail> {
-    let mut records = [CellRecord {
-        height: 0i16,
-        count: 0,
-    }; 6];
-    let mut entries = [shift_array::entry::Entry {
-        height: 0i16,
-        number: 0,
-    }; 9];
-    talk(
+    talk_with_array::<i16, 6, 9>(
         &rt,
-        &mut records,
-        ShiftArray::over(&mut entries),
+        0,
         &[
             ("O 3 2 1 000500070007000300050009", "ok\n"),
             ("S", "ok 4\n"),
@@ -358,18 +265,9 @@ fn denied_calls_between(rt: HostRuntime) -> Result<(), Fail> {
 // Lines that are none of the forms.
 #[test]
 fn no_form(rt: HostRuntime) -> Result<(), Fail> {
-    let mut records = [CellRecord {
-        height: 0i16,
-        count: 0,
-    }; 6];
-    let mut entries = [shift_array::entry::Entry {
-        height: 0i16,
-        number: 0,
-    }; 9];
-    talk(
+    talk_with_array::<i16, 6, 9>(
         &rt,
-        &mut records,
-        ShiftArray::over(&mut entries),
+        0,
         &[
             ("", "no 13\n"),
             (" ", "no 13\n"),
@@ -428,18 +326,9 @@ fn no_form(rt: HostRuntime) -> Result<(), Fail> {
 // Numbers of one to seven digits.
 #[test]
 fn leading_zeros(rt: HostRuntime) -> Result<(), Fail> {
-    let mut records = [CellRecord {
-        height: 0i16,
-        count: 0,
-    }; 6];
-    let mut entries = [shift_array::entry::Entry {
-        height: 0i16,
-        number: 0,
-    }; 9];
-    talk(
+    talk_with_array::<i16, 6, 9>(
         &rt,
-        &mut records,
-        ShiftArray::over(&mut entries),
+        0,
         &[
             ("O 0000003 02 001 000500070007000300050009", "ok\n"),
             ("T 0000000 0000000", "no 9\n"),
@@ -455,20 +344,9 @@ fn leading_zeros(rt: HostRuntime) -> Result<(), Fail> {
 // The worked plan, counted by a finger list.
 #[test]
 fn finger_list_under_the_layer(rt: HostRuntime) -> Result<(), Fail> {
-    let mut records = [CellRecord {
-        height: 0i16,
-        count: 0,
-    }; 6];
-    let mut entries = [finger_list::entry::Entry {
-        height: 0i16,
-        number: 0,
-        next: 0,
-        prev: 0,
-    }; 9];
-    talk(
+    talk_with_fingers::<i16, 6, 9>(
         &rt,
-        &mut records,
-        FingerList::over(&mut entries),
+        0,
         &[
             ("O 3 2 1 000500070007000300050009", "ok\n"),
             ("T 0 0", "no 9\n"),
@@ -500,20 +378,9 @@ fn finger_list_under_the_layer(rt: HostRuntime) -> Result<(), Fail> {
 // Ground that goes up and down, counted by a finger list.
 #[test]
 fn broken_ground(rt: HostRuntime) -> Result<(), Fail> {
-    let mut records = [CellRecord {
-        height: 0i16,
-        count: 0,
-    }; 1024];
-    let mut entries = [finger_list::entry::Entry {
-        height: 0i16,
-        number: 0,
-        next: 0,
-        prev: 0,
-    }; 1027];
-    talk(
+    talk_with_fingers::<i16, 1024, 1027>(
         &rt,
-        &mut records,
-        FingerList::over(&mut entries),
+        0,
         &[
             (
                 "O 6 5 2 000200010000FFFFFFFEFFFDFFFCFFFBFFFAFFF9FFF8FFF70009000800070006000500040003000200010000FFFFFFFEFFFDFFFCFFFBFFFAFFF9FFF8",
@@ -562,20 +429,9 @@ fn broken_ground(rt: HostRuntime) -> Result<(), Fail> {
 // Two heights far apart.
 #[test]
 fn cliffs(rt: HostRuntime) -> Result<(), Fail> {
-    let mut records = [CellRecord {
-        height: 0i16,
-        count: 0,
-    }; 1024];
-    let mut entries = [finger_list::entry::Entry {
-        height: 0i16,
-        number: 0,
-        next: 0,
-        prev: 0,
-    }; 1027];
-    talk(
+    talk_with_fingers::<i16, 1024, 1027>(
         &rt,
-        &mut records,
-        FingerList::over(&mut entries),
+        0,
         &[
             (
                 "O 5 4 1 80007FFF80007FFF800080007FFF80007FFF800080007FFF80007FFF800080007FFF80007FFF8000",
@@ -633,18 +489,9 @@ fn cliffs(rt: HostRuntime) -> Result<(), Fail> {
 // Heights altered upward and downward in unswept, half swept and swept plans, corners too.
 #[test]
 fn alter_before_between_and_after(rt: HostRuntime) -> Result<(), Fail> {
-    let mut records = [CellRecord {
-        height: 0i16,
-        count: 0,
-    }; 1024];
-    let mut entries = [shift_array::entry::Entry {
-        height: 0i16,
-        number: 0,
-    }; 1027];
-    talk(
+    talk_with_array::<i16, 1024, 1027>(
         &rt,
-        &mut records,
-        ShiftArray::over(&mut entries),
+        0,
         &[
             ("A 0 0 0001", "no 1\n"),
             (
@@ -741,18 +588,9 @@ fn alter_before_between_and_after(rt: HostRuntime) -> Result<(), Fail> {
 // A cell altered to the same height, to a level one, and back.
 #[test]
 fn alter_to_a_level_height(rt: HostRuntime) -> Result<(), Fail> {
-    let mut records = [CellRecord {
-        height: 0i16,
-        count: 0,
-    }; 1024];
-    let mut entries = [shift_array::entry::Entry {
-        height: 0i16,
-        number: 0,
-    }; 1027];
-    talk(
+    talk_with_array::<i16, 1024, 1027>(
         &rt,
-        &mut records,
-        ShiftArray::over(&mut entries),
+        0,
         &[
             ("O 3 3 2 000100020003000200020002000300020001", "ok\n"),
             ("S", "ok 0\n"),
@@ -804,18 +642,9 @@ fn alter_to_a_level_height(rt: HostRuntime) -> Result<(), Fail> {
 // Denied alters and shares leave the counts.
 #[test]
 fn denied_alters(rt: HostRuntime) -> Result<(), Fail> {
-    let mut records = [CellRecord {
-        height: 0i16,
-        count: 0,
-    }; 6];
-    let mut entries = [shift_array::entry::Entry {
-        height: 0i16,
-        number: 0,
-    }; 9];
-    talk(
+    talk_with_array::<i16, 6, 9>(
         &rt,
-        &mut records,
-        ShiftArray::over(&mut entries),
+        0,
         &[
             ("O 3 2 1 000500070007000300050009", "ok\n"),
             ("S", "ok 4\n"),
@@ -836,18 +665,9 @@ fn denied_alters(rt: HostRuntime) -> Result<(), Fail> {
 // Shares of the full window, rounded down.
 #[test]
 fn shares(rt: HostRuntime) -> Result<(), Fail> {
-    let mut records = [CellRecord {
-        height: 0i16,
-        count: 0,
-    }; 1024];
-    let mut entries = [shift_array::entry::Entry {
-        height: 0i16,
-        number: 0,
-    }; 1027];
-    talk(
+    talk_with_array::<i16, 1024, 1027>(
         &rt,
-        &mut records,
-        ShiftArray::over(&mut entries),
+        0,
         &[
             ("H 0 0", "no 1\n"),
             ("O 3 2 1 000500070007000300050009", "ok\n"),

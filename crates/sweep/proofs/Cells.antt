@@ -3,7 +3,7 @@ use Rattle.std.proofs.Common.{◌≡◌, ℕ, ◌+◌, ◌*◌, ◌<◌, cond, L
 use Rattle.std.specs.Option.{option_to_list}
 use Rattle.std.specs.List.{slice_get}
 use Rattle.std.proofs.lemmas.Nat.{mul-add-lt}
-use Rattle.std.proofs.lemmas.List.{length-map, map-set, set-get_or, get_or-map}
+use Rattle.std.proofs.lemmas.List.{length-map, map-set, set-get_or, get_or-map, get_or-set_same, get_or-set_other}
 use Rattle.std.proofs.lemmas.Option.{slice_get-get_or}
 use Rattle.std.proofs.lemmas.Bool.{lt-ltb}
 use Rattle.grid.specs.declared.CellRecord.{CellRecord}
@@ -35,15 +35,37 @@ heights_kept {X} records i n d lt =
     let k : CellRecord X = record { height = (get_or records i d).height; count = n } in
     map-set f records i k ∙ (ap (λ x. set (map f records) i x) (sym (get_or-map f records i d d.height lt)) ∙ set-get_or (map f records) i d.height)
 
+-- what it leaves to record a count at an index
+pub record Recorded {X : Type 0} (i n : ℕ) (before after : List (CellRecord X)) : Type 0 where
+  -- every height is as before
+  pub heights : heights_of after ≡ heights_of before
+  -- the count is there
+  pub count : (d : CellRecord X) → (get_or after i d).count ≡ n
+  -- all other records are as before
+  pub others : (j : ℕ) (d : CellRecord X) → (j ≡ i → ⊥) → get_or after j d ≡ get_or before j d
+
 -- equal records have equal counts
 pub count_of : {X : Type 0} {a b : CellRecord X} → a ≡ b → a.count ≡ b.count
 count_of {X} e = ap (λ (c : CellRecord X). c.count) e
+
+-- a count is recorded
+pub recorded : {X : Type 0} (records : List (CellRecord X)) (i n : ℕ) (d : CellRecord X) → i < length records
+    → Recorded i n records (set records i (record { height = (get_or records i d).height; count = n }))
+recorded records i n d lt = record {
+  heights = heights_kept records i n d lt;
+  count = λ e. count_of (get_or-set_same records i _ e lt);
+  others = λ j e apart. get_or-set_other records i j _ e apart;
+}
 
 -- records with equal heights are equally many
 pub heights_length : {X : Type 0} (before after : List (CellRecord X)) → heights_of after ≡ heights_of before → length after ≡ length before
 heights_length before after e = sym (length-map after (λ c. c.height)) ∙ (ap length e ∙ length-map before (λ c. c.height))
 
--- the height of the j-th cell walked of a column
+-- the height of the j-th cell walked of a column, as a list of one
+abbrev pub walked_cell : {X : Type 0} → Terrain X → (r y x j : ℕ) → List X
+walked_cell t r y x j = option_to_list (height_at t (walked_place t r y x j))
+
+-- it is the height at the cell's row
 pub walked_height : {X : Type 0} (t : Terrain X) (r y x j z : ℕ) (h : X) → z ≡ walked_row (band_top r y) (band_rows t.rows r y) x j → height_at t (record { x = x; y = z }) ≡ Some h
-    → option_to_list (height_at t (walked_place t r y x j)) ≡ h ∷ []
+    → walked_cell t r y x j ≡ h ∷ []
 walked_height t r y x j z h e f = ap (λ b. option_to_list (height_at t (record { x = x; y = b }))) (sym e) ∙ ap option_to_list f

@@ -1,12 +1,7 @@
 -- Lists joined over a range of numbers.
-use Rattle.std.proofs.Common.{◌≡◌, ℕ, zero, suc, ◌+◌, ◌-◌, ◌*◌, ◌≤◌, List, [], ◌∷◌, ◌++◌, length, sym, refl, ap, ◌∙◌, add-zero, add-mul, zero-add, arith, length-append}
+use Rattle.std.proofs.Common.{◌≡◌, ℕ, zero, suc, ◌+◌, ◌-◌, ◌*◌, ◌≤◌, List, ◌++◌, length, sym, ap, ◌∙◌, add-zero, add-mul, zero-add, arith, length-append}
 use Rattle.std.specs.List.{range_with_len, flat_map}
 use Rattle.std.proofs.lemmas.List.{append-nil, append_assoc}
-
--- what is joined over two lists in a row
-pub joined_append : {A X : Type 0} (f : A → List X) (xs ys : List A) → flat_map f (xs ++ ys) ≡ flat_map f xs ++ flat_map f ys
-joined_append f [] ys = refl
-joined_append f (a ∷ xs) ys = ap (λ l. f a ++ l) (joined_append f xs ys) ∙ sym (append_assoc (f a) (flat_map f xs) (flat_map f ys))
 
 -- a range in two parts
 pub joined_split : {X : Type 0} (f : ℕ → List X) (a k l : ℕ) → flat_map f (range_with_len a (k + l)) ≡ flat_map f (range_with_len a k) ++ flat_map f (range_with_len (a + k) l)
@@ -23,12 +18,9 @@ joined_range f a b z p q =
     let e2 : a + (b - a) ≡ b = omega arith in
     rw (e1, joined_split f a (b - a) (z - b), e2)
 
--- the range from a to just before x, with x too
-pub joined_next : {X : Type 0} (f : ℕ → List X) (a x : ℕ) → a ≤ x → flat_map f (range_with_len a (x + 1 - a)) ≡ flat_map f (range_with_len a (x - a)) ++ f x
-joined_next f a x p =
-    let e : x + 1 - x ≡ 1 = omega arith in
-    let one : flat_map f (range_with_len x (x + 1 - x)) ≡ f x = ap (λ n. flat_map f (range_with_len x n)) e ∙ append-nil (f x) in
-    joined_range f a x (x + 1) p (omega arith) ∙ ap (λ l. flat_map f (range_with_len a (x - a)) ++ l) one
+-- a range of n numbers, with the next, x
+pub joined_next : {X : Type 0} (f : ℕ → List X) (a n m x : ℕ) → x ≡ a + n → m ≡ n + 1 → flat_map f (range_with_len a m) ≡ flat_map f (range_with_len a n) ++ f x
+joined_next f a n m x at more = rw (more, at, joined_split f a n 1, append-nil (f (a + n)))
 
 -- lists of at most n elements, joined
 pub length_joined_le : {X : Type 0} (f : ℕ → List X) (n : ℕ) → ((x : ℕ) → length (f x) ≤ n) → (a k : ℕ) → length (flat_map f (range_with_len a k)) ≤ k * n

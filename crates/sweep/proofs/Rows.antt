@@ -1,5 +1,5 @@
 -- A row's sweep, turn by turn.
-use Rattle.std.proofs.Common.{◌≡◌, ℕ, ◌+◌, ◌-◌, ◌*◌, ◌<◌, ◌≤◌, min, Bool, ◌⊎◌, List, [], ◌++◌, get_or, Some, sym, refl, ap, ◌∙◌, subst, ⊎_elim, add-mul, arith, below_more}
+use Rattle.std.proofs.Common.{◌≡◌, ℕ, ◌+◌, ◌-◌, ◌*◌, ◌<◌, ◌≤◌, min, Bool, ◌⊎◌, List, [], get_or, Some, sym, refl, ap, ◌∙◌, subst, ⊎_elim, add-mul, arith, below_more}
 use Rattle.std.specs.List.{range_with_len, flat_map}
 use Rattle.counters.specs.Held.{Same}
 use Rattle.counters.specs.Calls.{View, Ran, still, begun}
@@ -52,10 +52,7 @@ progress_places {X} le t r y x before after old new first asked v begins p = ran
 pub progress_more : {X : Type 0} (le : X → X → Bool) (t : Terrain X) (r y x : ℕ) (before during after : List (CellRecord X)) (old new newer : View X)
     → Progress le t r y x before during old new → Turned le t r y x during after new newer → Progress le t r y (x + 1) before after old newer
 progress_more le t r y x before during after old new newer p n =
-    let z : x ≡ x - 0 = omega arith in
-    let one : x + 1 ≡ x + 1 - 0 = omega arith in
-    let calls : flat_map (turn_calls t r y) (range_with_len 0 (x + 1)) ≡ flat_map (turn_calls t r y) (range_with_len 0 x) ++ turn_calls t r y x =
-    ap (λ m. flat_map (turn_calls t r y) (range_with_len 0 m)) one ∙ (joined_next (turn_calls t r y) 0 x (omega arith) ∙ ap (λ m. flat_map (turn_calls t r y) (range_with_len 0 m) ++ turn_calls t r y x) (sym z)) in
+    let calls = joined_next (turn_calls t r y) 0 x (x + 1) x (omega arith) refl in
     record {
       heights = n.heights ∙ p.heights;
       counts = λ d. below_more (λ k. (get_or after (y * t.width + k) d).count ≡ count_at le t r (record { x = k; y = y })) x
@@ -90,7 +87,3 @@ progress_end le t r y x before after old new first asked u mileage wide iny end 
       ran = subst (λ v. Ran le v (flat_map (turn_calls t r y) (range_with_len 0 w)) new) begins (subst (λ k. Ran le u (flat_map (turn_calls t r y) (range_with_len 0 k)) new) end p.ran);
       held = same_trans p.held (same_trans (same_sym held) (same_window le t r (w - 1) y (omega arith) iny));
     }
-
--- a sweep keeps the places
-pub swept_places : {X : Type 0} {le : X → X → Bool} {t : Terrain X} {r y : ℕ} {before after : List (CellRecord X)} {old new : View X} {mileage : ℕ} → Swept le t r y before after old new mileage → new.places ≡ old.places
-swept_places s = ran_places s.ran

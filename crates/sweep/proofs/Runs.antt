@@ -10,7 +10,7 @@ use Rattle.counters.proofs.Tallies.{tally_append, same_refl, same_length, held_l
 use Rattle.sweep.specs.declared.column.Change.{Change}
 use Rattle.sweep.specs.declared.column.Change.TheVariants.{Put as puts, Take as takes}
 use Rattle.sweep.specs.Inner.{call_of, Ready}
-use Rattle.sweep.proofs.Lists.{joined_range, joined_next}
+use Rattle.sweep.proofs.Lists.{joined_split, joined_next}
 
 -- one run after another
 pub ran_then : {X : Type 0} {le : X → X → Bool} {v u w : View X} {calls more : List (Call X)} → Ran le v calls u → Ran le u more w → Ran le v (calls ++ more) w
@@ -70,45 +70,24 @@ ready_after {v = v} {w = w} takes hs ks r f =
     let s = ran_takes hs r in
     (f.0, record { tallies = λ p b. omega (arith, s.tallies p b, f.1.tallies p b, tally_append p hs w.held, tally_append p (hs ++ ks) f.0, tally_append p hs ks, tally_append p ks f.0) })
 
--- the changes of one range more
-pub ran_joined : {X : Type 0} {le : X → X → Bool} {v u w : View X} (c : Change) (f : ℕ → List X) (a x : ℕ) → a ≤ x
-    → Ran le v (map (call_of c) (flat_map f (range_with_len a (x - a)))) u → Ran le u (map (call_of c) (f x)) w → Ran le v (map (call_of c) (flat_map f (range_with_len a (x + 1 - a)))) w
-ran_joined {le = le} {v = v} {w = w} c f a x p r q =
-    let e : map (call_of c) (flat_map f (range_with_len a (x + 1 - a))) ≡ map (call_of c) (flat_map f (range_with_len a (x - a))) ++ map (call_of c) (f x) =
-    ap (map (call_of c)) (joined_next f a x p) ∙ map-append (call_of c) (flat_map f (range_with_len a (x - a))) (f x) in
-    subst (λ o. Ran le v o w) (sym e) (ran_then r q)
+-- the changes of the lists at n numbers from a on were carried out
+abbrev pub Changed : {X : Type 0} → (X → X → Bool) → Change → (ℕ → List X) → (a n : ℕ) → (v w : View X) → Type 0
+Changed le c f a n v w = Ran le v (map (call_of c) (flat_map f (range_with_len a n))) w
 
--- the next of the changes over a range is not refused
-pub ready_joined : {X : Type 0} {le : X → X → Bool} {v w : View X} (c : Change) (f : ℕ → List X) (a x b : ℕ) → a ≤ x → x < b
-    → Ran le v (map (call_of c) (flat_map f (range_with_len a (x - a)))) w → Ready le v c (flat_map f (range_with_len a (b - a))) → Ready le w c (f x)
-ready_joined {le = le} {v = v} {w = w} c f a x b p q r s =
-    let s1 = subst (λ l. Ready le v c l) (joined_range f a (x + 1) b (omega arith) (omega arith)) s in
-    let s2 = ready_front le v c (flat_map f (range_with_len a (x + 1 - a))) (flat_map f (range_with_len (x + 1) (b - (x + 1)))) s1 in
-    let s3 = subst (λ l. Ready le v c l) (joined_next f a x p) s2 in
-    ready_after c (flat_map f (range_with_len a (x - a))) (f x) r s3
+-- with those of one list more
+pub changed_more : {X : Type 0} {le : X → X → Bool} {v u w : View X} (c : Change) (f : ℕ → List X) (a n m x : ℕ) (hs : List X) → x ≡ a + n → m ≡ n + 1 → f x ≡ hs
+    → Changed le c f a n v u → Ran le u (map (call_of c) hs) w → Changed le c f a m v w
+changed_more {le = le} {v = v} {w = w} c f a n m x hs at more e r q =
+    let calls : map (call_of c) (flat_map f (range_with_len a m)) ≡ map (call_of c) (flat_map f (range_with_len a n)) ++ map (call_of c) hs =
+    ap (map (call_of c)) (joined_next f a n m x at more ∙ ap (λ l. flat_map f (range_with_len a n) ++ l) e) ∙ map-append (call_of c) (flat_map f (range_with_len a n)) hs in
+    subst (λ o. Ran le v o w) (sym calls) (ran_then r q)
 
--- one change more, over a range from 0 with one height at each number
-pub ran_column : {X : Type 0} {le : X → X → Bool} {v u w : View X} (c : Change) (f : ℕ → List X) (j : ℕ) (h : X) → f j ≡ h ∷ []
-    → Ran le v (map (call_of c) (flat_map f (range_with_len 0 j))) u → Ran le u (call_of c h ∷ []) w → Ran le v (map (call_of c) (flat_map f (range_with_len 0 (j + 1)))) w
-ran_column {le = le} {v = v} {u = u} {w = w} c f j h e r q =
-    let z : j ≡ j - 0 = omega arith in
-    let one : j + 1 - 0 ≡ j + 1 = omega arith in
-    let r1 = subst (λ n. Ran le v (map (call_of c) (flat_map f (range_with_len 0 n))) u) z r in
-    let q1 = subst (λ l. Ran le u (map (call_of c) l) w) (sym e) q in
-    subst (λ n. Ran le v (map (call_of c) (flat_map f (range_with_len 0 n))) w) one (ran_joined c f 0 j (omega arith) r1 q1)
-
--- the next change over such a range is not refused
-pub ready_column : {X : Type 0} {le : X → X → Bool} {v w : View X} (c : Change) (f : ℕ → List X) (j n : ℕ) (h : X) → f j ≡ h ∷ [] → j < n
-    → Ran le v (map (call_of c) (flat_map f (range_with_len 0 j))) w → Ready le v c (flat_map f (range_with_len 0 n)) → Ready le w c (h ∷ [])
-ready_column {le = le} {v = v} {w = w} c f j n h e q r s =
-    let z : j ≡ j - 0 = omega arith in
-    let all : n ≡ n - 0 = omega arith in
-    let r1 = subst (λ k. Ran le v (map (call_of c) (flat_map f (range_with_len 0 k))) w) z r in
-    let s1 = subst (λ k. Ready le v c (flat_map f (range_with_len 0 k))) all s in
-    subst (λ l. Ready le w c l) e (ready_joined c f 0 j n (omega arith) q r1 s1)
-
--- no changes over an empty range
-pub ran_nothing : {X : Type 0} {le : X → X → Bool} {v : View X} (c : Change) (f : ℕ → List X) (a : ℕ) → Ran le v (map (call_of c) (flat_map f (range_with_len a (a - a)))) v
-ran_nothing {le = le} {v = v} c f a =
-    let e : 0 ≡ a - a = omega arith in
-    subst (λ n. Ran le v (map (call_of c) (flat_map f (range_with_len a n))) v) e still
+-- the next of these changes is not refused
+pub ready_next : {X : Type 0} {le : X → X → Bool} {v w : View X} (c : Change) (f : ℕ → List X) (a n all x : ℕ) (hs : List X) → x ≡ a + n → n < all → f x ≡ hs
+    → Changed le c f a n v w → Ready le v c (flat_map f (range_with_len a all)) → Ready le w c hs
+ready_next {le = le} {v = v} {w = w} c f a n all x hs at more e r s =
+    let parts : all ≡ (n + 1) + (all - (n + 1)) = omega arith in
+    let s1 = subst (λ l. Ready le v c l) (ap (λ k. flat_map f (range_with_len a k)) parts ∙ joined_split f a (n + 1) (all - (n + 1))) s in
+    let s2 = ready_front le v c (flat_map f (range_with_len a (n + 1))) (flat_map f (range_with_len (a + (n + 1)) (all - (n + 1)))) s1 in
+    let s3 = subst (λ l. Ready le v c l) (joined_next f a n (n + 1) x at refl) s2 in
+    subst (λ l. Ready le w c l) e (ready_after c (flat_map f (range_with_len a n)) (f x) r s3)

@@ -1,9 +1,9 @@
 -- Sums over a range of numbers.
 use Rattle.std.proofs.Common.{◌≡◌, ℕ, zero, suc, ◌+◌, ◌-◌, ◌<◌, ◌≤◌, Bool, List, map, sym, refl, ap, ◌∙◌, add-zero, zero-add, arith}
 use Rattle.std.specs.List.{range_with_len, flat_map}
+use Rattle.std.proofs.lemmas.List.Concat.{flat_map-append}
 use Rattle.counters.specs.Held.{tally}
 use Rattle.counters.proofs.Tallies.{tally_append}
-use Rattle.sweep.proofs.Lists.{joined_append}
 
 -- f a + f (a + 1) + ..: n numbers
 abbrev pub total : (ℕ → ℕ) → ℕ → ℕ → ℕ
@@ -88,4 +88,4 @@ tally_joined_map p f g a (suc n) = omega (arith, tally_append p (f (g a)) (flat_
 pub tally_joined_joined : {A X : Type 0} (p : X → Bool) (f : A → List X) (g : ℕ → List A) (a n : ℕ) → tally p (flat_map f (flat_map g (range_with_len a n))) ≡ total (λ x. tally p (flat_map f (g x))) a n
 tally_joined_joined p f g a zero = refl
 tally_joined_joined p f g a (suc n) =
-    omega (arith, ap (tally p) (joined_append f (g a) (flat_map g (range_with_len (a + 1) n))), tally_append p (flat_map f (g a)) (flat_map f (flat_map g (range_with_len (a + 1) n))), tally_joined_joined p f g (a + 1) n)
+    omega (arith, ap (tally p) (flat_map-append f (g a) (flat_map g (range_with_len (a + 1) n))), tally_append p (flat_map f (g a)) (flat_map f (flat_map g (range_with_len (a + 1) n))), tally_joined_joined p f g (a + 1) n)

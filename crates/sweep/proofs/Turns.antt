@@ -1,5 +1,5 @@
 -- The turn of a cell: which columns are held, taken and put.
-use Rattle.std.proofs.Common.{◌≡◌, ℕ, zero, suc, ◌+◌, ◌-◌, ◌*◌, ◌<◌, ◌≤◌, min, Bool, cond, List, ◌++◌, map, length, get_or, Some, sym, ap, ◌∙◌, subst, arith, length-append}
+use Rattle.std.proofs.Common.{◌≡◌, ℕ, zero, suc, ◌+◌, ◌-◌, ◌*◌, ◌<◌, ◌≤◌, min, Bool, cond, List, ◌++◌, map, length, Some, sym, ap, ◌∙◌, subst, arith, length-append}
 use lib.Dec.{eqb-suc-zero}
 use Rattle.std.specs.Option.{option_to_list}
 use Rattle.heights.specs.Order.{Preorder}
@@ -7,12 +7,13 @@ use Rattle.counters.specs.Held.{tally, Same, up_to}
 use Rattle.counters.specs.Calls.{View, ask, Did, Ran, still, next}
 use Rattle.counters.proofs.Tallies.{tally_append, same_trans, same_length, same_up_to, same_equal}
 use Rattle.grid.specs.declared.CellRecord.{CellRecord}
-use Rattle.grid.specs.Terrain.{Terrain, heights_of, height_at}
+use Rattle.grid.specs.Terrain.{Terrain, height_at}
 use Rattle.grid.specs.Window.{count_at, window_heights}
 use Rattle.sweep.specs.declared.column.Change.TheVariants.{Put, Take}
 use Rattle.sweep.specs.Inner.{call_of, Ready, Turned}
 use Rattle.sweep.specs.Sweeping.{places_needed}
 use Rattle.sweep.specs.Walk.{column_heights, columns_heights, taken_before, put_before, turn_calls}
+use Rattle.sweep.proofs.Cells.{Recorded}
 use Rattle.sweep.proofs.Lists.{joined_range}
 use Rattle.sweep.proofs.Runs.{ran_then, ran_places, ran_puts, ran_takes}
 use Rattle.sweep.proofs.Windows.{same_window, count_window, columns_fit}
@@ -104,13 +105,11 @@ module _ {X : Type 0} (le : X → X → Bool) (t : Terrain X) (r y x a b c e : �
             ∙ sym (count_window le t r (record { x = x; y = y }) h own)
 
         -- what the turn leaves, once the count told is recorded
-        pub turn_done : Preorder le → (n : ℕ) → n ≡ up_to le w.held h → (before after : List (CellRecord X)) → heights_of after ≡ heights_of before
-            → ((d : CellRecord X) → (get_or after (y * t.width + x) d).count ≡ n) → ((i : ℕ) (d : CellRecord X) → (i ≡ y * t.width + x → ⊥) → get_or after i d ≡ get_or before i d)
-            → Turned le t r y x before after u z
-        turn_done o n told before after heights written others = record {
-          heights = heights;
-          count = λ d. written d ∙ (told ∙ turn_count o);
-          others = others;
+        pub turn_done : Preorder le → (n : ℕ) → n ≡ up_to le w.held h → (before after : List (CellRecord X)) → Recorded (y * t.width + x) n before after → Turned le t r y x before after u z
+        turn_done o n told before after written = record {
+          heights = written.heights;
+          count = λ d. written.count d ∙ (told ∙ turn_count o);
+          others = written.others;
           ran = turn_ran;
           held = same_trans did.held turn_held;
         }

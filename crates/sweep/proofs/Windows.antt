@@ -2,7 +2,7 @@
 use Rattle.std.proofs.Common.{◌≡◌, ℕ, ◌+◌, ◌-◌, ◌*◌, ◌%◌, ◌<◌, ◌≤◌, min, Bool, true, false, cond, ◌&&◌, eqb, List, [], ◌∷◌, map, length, Some, None, Option, sym, refl, ap, ◌∙◌, add-zero, mul-le-mul, arith}
 use Rattle.std.specs.List.{range_with_len, flat_map}
 use Rattle.std.specs.Option.{option_to_list}
-use Rattle.std.proofs.lemmas.Bool.{le-leb, lt-leb}
+use Rattle.std.proofs.lemmas.Bool.Decides.{nat_tests}
 use Rattle.counters.specs.Held.{tally, Same, up_to}
 use Rattle.counters.proofs.Tallies.{tally_append}
 use Rattle.grid.specs.declared.Place.{Place}
@@ -15,15 +15,15 @@ use Rattle.sweep.proofs.Totals.{total, total_ext, total_none, total_part, total_
 
 -- a number in reach
 pub near_yes : (r x a : ℕ) → x - r ≤ a → a < x + r + 1 → near r x a ≡ true
-near_yes r x a p q = let e1 = le-leb x (a + r) (omega arith) in let e2 = le-leb a (x + r) (omega arith) in rw (e1, e2)
+near_yes r x a p q = grind (arith, nat_tests)
 
 -- a number below the reach
 pub near_low : (r x a : ℕ) → a < x - r → near r x a ≡ false
-near_low r x a p = let e1 = lt-leb x (a + r) (omega arith) in rw e1
+near_low r x a p = grind (arith, nat_tests)
 
 -- a number above the reach
 pub near_high : (r x a : ℕ) → x + r + 1 ≤ a → near r x a ≡ false
-near_high r x a p = let e1 = le-leb x (a + r) (omega arith) in let e2 = lt-leb a (x + r) (omega arith) in rw (e1, e2)
+near_high r x a p = grind (arith, nat_tests)
 
 -- the sum down a column is that up it
 pub either_way : (f : ℕ → ℕ) (top n : ℕ) (b : Bool) → total (λ j. f (cond b (top + j) (top + (n - 1 - j)))) 0 n ≡ total f top n

@@ -1,5 +1,5 @@
 -- What the parts of a sweep ask and leave.
-use Rattle.std.specs.Prelude.{◌≡◌, ℕ, ◌+◌, ◌-◌, ◌*◌, ◌<◌, ◌≤◌, min, Bool, List, ◌++◌, length, get_or, ◌≢◌, slice_index_or}
+use Rattle.std.specs.Prelude.{◌≡◌, ℕ, ◌+◌, ◌-◌, ◌*◌, ◌≤◌, min, Bool, List, ◌++◌, length, get_or, ◌≢◌, slice_index_or}
 use Rattle.counters.specs.Held.{Same}
 use Rattle.counters.specs.Calls.{View, Call, put, take, Ran}
 use Rattle.grid.specs.declared.CellRecord.{CellRecord}
@@ -10,10 +10,6 @@ use Rattle.sweep.specs.declared.column.Change.{Change}
 use Rattle.sweep.specs.declared.column.Change.TheVariants.{Put, Take}
 use Rattle.sweep.specs.Sweeping.{terrain_of}
 use Rattle.sweep.specs.Walk.{columns_heights, turn_calls}
-
--- the sizes of a band are small enough to be summed, and its row is one of the grid's
-abbrev pub Lawful : Band → Type 0
-Lawful b = (b.width ≤ 1024) × (b.rows ≤ 1024) × (b.radius ≤ 255) × (b.y < b.rows)
 
 -- the grid that a band lies in
 abbrev pub terrain : {X : Type 0} → Band → List (CellRecord X) → Terrain X

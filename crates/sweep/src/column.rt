@@ -1,15 +1,15 @@
 //! The columns of a band, put or taken as they are walked.
-ghost use Rattle.std.specs.Prelude.{◌≡◌, ◌*◌, ◌<◌, ◌≤◌, [], ◌∷◌, map, length};
+ghost use Rattle.std.specs.Prelude.{◌≡◌, ◌<◌, ◌≤◌, [], ◌∷◌, map};
 ghost use Rattle.counters.specs.Calls.{Ran};
-ghost use Rattle.sweep.specs.Inner.{Lawful, terrain, call_of, Ready};
+ghost use Rattle.sweep.specs.Inner.{terrain, call_of, Ready};
 ghost use Rattle.sweep.specs.Walk.{column_heights, columns_heights};
 
-use crate::band::Band;
+use crate::band::Strip;
 use counters::counter::Counter;
-use grid::CellRecord;
 use heights::height::Height;
 
 // How a height changes what a counter holds.
+// A closure is no plainer here: each clause would have to say what its calls do, where `call_of change` does.
 #[derive(Clone, Copy)]
 pub(crate) enum Change {
     Put,
@@ -17,6 +17,7 @@ pub(crate) enum Change {
 }
 
 // Puts or takes one height.
+// A struct round a sound counter is no plainer: each other clause would still name what the counter holds before and after.
 pub(crate) fn change_one<H: Height, C: Counter<Kind = H>>(
     counter: &mut C,
     height: H,
@@ -40,22 +41,20 @@ pub(crate) fn change_one<H: Height, C: Counter<Kind = H>>(
 // Puts or takes the heights of a column of the band, as they are walked.
 pub(crate) fn change_column<H: Height, C: Counter<Kind = H>>(
     counter: &mut C,
-    records: &[CellRecord<H>],
-    band: Band,
+    strip: &Strip<'_, H>,
     x: usize,
     change: Change,
 )
     requires sound { C.Counter.sound counter.old }
-    requires lawful { Lawful band }
-    requires whole { length records.now ≡ band.width * band.rows }
-    requires inside { x < band.width }
-    requires ready { Ready H.Height.not_higher (C.Counter.view counter.old) change (column_heights (terrain band records.now) band.radius band.y x) }
+    requires inside { x < strip.now.band.width }
+    requires ready { Ready H.Height.not_higher (C.Counter.view counter.old) change (column_heights (terrain strip.now.band strip.now.records.now) strip.now.band.radius strip.now.band.y x) }
     ensures sound { C.Counter.sound counter.new }
-    ensures ran { Ran H.Height.not_higher (C.Counter.view counter.old) (map (call_of change) (column_heights (terrain band records.now) band.radius band.y x)) (C.Counter.view counter.new) }
+    ensures ran { Ran H.Height.not_higher (C.Counter.view counter.old) (map (call_of change) (column_heights (terrain strip.now.band strip.now.records.now) strip.now.band.radius strip.now.band.y x)) (C.Counter.view counter.new) }
 {
-    for j in 0..band.depth() {
-        let y = band.walked_row(x, j);
-        let height = band.height_at(records, x, y);
+    // Over the steps of the walk, which are no indices of a slice.
+    for j in 0..strip.band.depth() {
+        let y = strip.band.walked_row(x, j);
+        let height = strip.height_at(x, y);
         change_one(counter, height, change);
     }
 }
@@ -63,21 +62,19 @@ pub(crate) fn change_column<H: Height, C: Counter<Kind = H>>(
 // Puts or takes the columns of the band from one to just before another, as they are walked.
 pub(crate) fn change_columns<H: Height, C: Counter<Kind = H>>(
     counter: &mut C,
-    records: &[CellRecord<H>],
-    band: Band,
+    strip: &Strip<'_, H>,
     start: usize,
     end: usize,
     change: Change,
 )
     requires sound { C.Counter.sound counter.old }
-    requires lawful { Lawful band }
-    requires whole { length records.now ≡ band.width * band.rows }
-    requires inside { (start ≤ end) × (end ≤ band.width) }
-    requires ready { Ready H.Height.not_higher (C.Counter.view counter.old) change (columns_heights (terrain band records.now) band.radius band.y start end) }
+    requires inside { (start ≤ end) × (end ≤ strip.now.band.width) }
+    requires ready { Ready H.Height.not_higher (C.Counter.view counter.old) change (columns_heights (terrain strip.now.band strip.now.records.now) strip.now.band.radius strip.now.band.y start end) }
     ensures sound { C.Counter.sound counter.new }
-    ensures ran { Ran H.Height.not_higher (C.Counter.view counter.old) (map (call_of change) (columns_heights (terrain band records.now) band.radius band.y start end)) (C.Counter.view counter.new) }
+    ensures ran { Ran H.Height.not_higher (C.Counter.view counter.old) (map (call_of change) (columns_heights (terrain strip.now.band strip.now.records.now) strip.now.band.radius strip.now.band.y start end)) (C.Counter.view counter.new) }
 {
+    // Over columns, which are no indices of a slice.
     for x in start..end {
-        change_column(counter, records, band, x, change);
+        change_column(counter, strip, x, change);
     }
 }

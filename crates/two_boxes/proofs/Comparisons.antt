@@ -1,9 +1,9 @@
 -- Two lives side by side, one call more each, and what the law says of them.
-use Rattle.std.proofs.Common.{◌≡◌, ℕ, zero, suc, ◌+◌, ◌%◌, ◌<◌, ◌≤◌, Bool, true, false, cond, List, [], ◌∷◌, ◌++◌, map, length, get_or, take, drop, set, Some, None, Decides, Option, sym, refl, ap, ◌∙◌, subst, arith}
+use Rattle.std.proofs.Common.{◌≡◌, ℕ, zero, suc, ◌+◌, ◌<◌, ◌≤◌, Bool, true, false, List, [], ◌∷◌, ◌++◌, map, length, get_or, take, drop, set, Some, None, Decides, Option, sym, refl, ap, ◌∙◌, subst, arith}
 use Rattle.std.specs.List.{slice_get}
-use Rattle.std.proofs.lemmas.List.{length-map, length-append, length-take-le, map_push, set_at, drop_more, take_at, take_all, take-append-le, append_assoc}
+use Rattle.std.proofs.lemmas.Option.{slice_get_within, get_or_from_slice_get}
+use Rattle.std.proofs.lemmas.List.{take_more, length-map, length-append, length-take-le, map_push, set_at, drop_more, take_at, take-append-le, append_assoc}
 use Rattle.std.proofs.lemmas.Bool.{true≢false}
-use Rattle.std.proofs.lemmas.Bool.Decides.{nat_tests}
 use Rattle.heights.specs.Meaning.{Storage}
 use Rattle.heights.specs.Order.{Preorder}
 use Rattle.counters.specs.Calls.{View}
@@ -19,20 +19,10 @@ use Rattle.runs.specs.Running.{new_box}
 use Rattle.two_boxes.specs.Running.{Event, Turn, TookTurn, counters_after, Trace, Traced}
 use Rattle.runs.specs.Pointwise.{Pointwise}
 use Rattle.two_boxes.specs.Agreeing.{less_steps, Shared, Partnered, TwoBoxes}
-use Rattle.two_boxes.specs.Comparing.{comparable, Comparables, LookAlike, FirstApart, apart_after, verdict, BothCalled, RanBoth}
+use Rattle.two_boxes.specs.Comparing.{LookAlike, FirstApart, apart_after, verdict, BothCalled, RanBoth}
 use Rattle.runs.proofs.Couples.{both_push, both_length}
 use Rattle.two_boxes.proofs.Traces.{matched_traces}
 use Rattle.two_boxes.proofs.Whole.{sweeps_bounded}
-
--- what two lists that can be compared have
-pub comparables : (calls calls' counters counters' room room' : ℕ) → comparable calls calls' counters counters' room room' ≡ true → Comparables calls calls' counters counters' room room'
-comparables calls calls' counters counters' room room' e = record {
-  same_calls = grind (arith, nat_tests);
-  some_counter = grind (arith, nat_tests);
-  some_counter' = grind (arith, nat_tests);
-  enough = grind (arith, nat_tests);
-  enough' = grind (arith, nat_tests);
-}
 
 -- ---- one trace
 
@@ -48,11 +38,7 @@ trace_push k le i b last counters left (f ∷ events) e trace t =
     (trace.0, subst (λ n. Trace k le (suc i) f.after (counters_after i counters f.new) (events ++ e ∷ []) e.after (counters_after n left e.new)) (sym place) rest)
 
 take_push : {A : Type 0} (xs : List A) (i : ℕ) (x : A) → slice_get xs i ≡ Some x → take (i + 1) xs ≡ take i xs ++ x ∷ []
-take_push [] i x e = let z : ◌≡◌ {A = ℕ} 0 1 = cc in absurd (omega arith)
-take_push (y ∷ xs) zero x e = let same : y ≡ x = cc in ap (λ z. z ∷ []) same
-take_push (y ∷ xs) (suc i) x e =
-    let next : suc i + 1 ≡ suc (i + 1) = omega arith in
-    ap (λ n. take n (y ∷ xs)) next ∙ ap (λ zs. y ∷ zs) (take_push xs i x e)
+take_push xs i x e = take_more xs i x (slice_get_within xs i x e) ∙ ap (λ y. take i xs ++ y ∷ []) (get_or_from_slice_get xs i x x e)
 
 event_count : {X : Type 0} (events : List (Event X)) (calls : List Call) (i : ℕ) → map (λ e. e.call) events ≡ take i calls → i ≤ length calls → length events ≡ i
 event_count events calls i e h = sym (length-map events (λ e. e.call)) ∙ ap length e ∙ length-take-le i calls h
@@ -118,27 +104,25 @@ apart_push {X} {Y} events events' e e' i (Some j) alike long long' decides first
       λ f f' at at' same. first.2 f f' (sym (nth_front events (e ∷ []) j lt) ∙ at) (sym (nth_front events' (e' ∷ []) j lt') ∙ at') same,
     )
 
-module _ {X C Y D : Type 0} (k : Storage X C) (k' : Storage Y D) (le : X → X → Bool) (le' : Y → Y → Bool) (start : Contents X) (start' : Contents Y) (counters : List (View X)) (counters' : List (View Y)) (calls calls' : List Call) (memory memory' : List Answer) where
-  -- no call came yet
-  pub called_none : BothCalled k k' le le' start start start' start' counters counters counters' counters' (take 0 calls) (take 0 calls') memory memory memory' memory' None
-  called_none = record {
-    events = [];
-    events' = [];
-    traced = record { trace = (refl, refl); calls_are = refl; answers_are = refl };
-    traced' = record { trace = (refl, refl); calls_are = refl; answers_are = refl };
-    first_apart = tt;
-  }
+-- no call came yet
+pub called_none : {X C Y D : Type 0} {k : Storage X C} {k' : Storage Y D} {le : X → X → Bool} {le' : Y → Y → Bool} {start : Contents X} {start' : Contents Y} {counters : List (View X)} {counters' : List (View Y)} {memory memory' : List Answer} → BothCalled k k' le le' start start start' start' counters counters counters' counters' [] [] memory memory memory' memory' None
+called_none = record {
+  events = [];
+  events' = [];
+  traced = record { trace = (refl, refl); calls_are = refl; answers_are = refl };
+  traced' = record { trace = (refl, refl); calls_are = refl; answers_are = refl };
+  first_apart = tt;
+}
 
-  -- all calls came
-  pub called_all : (now : List (View X)) (now' : List (View Y)) (noted noted' : List Answer) (b : Contents X) (b' : Contents Y) (apart : Option ℕ) (i : ℕ) → length calls ≤ i → length calls' ≤ i → BothCalled k k' le le' start b start' b' counters now counters' now' (take i calls) (take i calls') memory noted memory' noted' apart → BothCalled k k' le le' start b start' b' counters now counters' now' calls calls' memory noted memory' noted' apart
-  called_all now now' noted noted' b b' apart i all all' u =
-      subst (λ cs. BothCalled k k' le le' start b start' b' counters now counters' now' cs calls' memory noted memory' noted' apart) (take_all i calls all) (subst (λ cs. BothCalled k k' le le' start b start' b' counters now counters' now' (take i calls) cs memory noted memory' noted' apart) (take_all i calls' all') u)
-
+module _ {X C Y D : Type 0} {k : Storage X C} {k' : Storage Y D} {le : X → X → Bool} {le' : Y → Y → Bool} {start : Contents X} {start' : Contents Y} {counters : List (View X)} {counters' : List (View Y)} {calls calls' : List Call} {memory memory' : List Answer} where
   -- one call more each
-  pub called_more : (now left : List (View X)) (now' left' : List (View Y)) (noted after-noted noted' after-noted' : List Answer) (b after : Contents X) (b' after' : Contents Y) (apart : Option ℕ) (told told' : Answer) (alike : Bool) (i : ℕ) → i < length calls → i < length calls' → i < length memory → i < length memory'
-      → BothCalled k k' le le' start b start' b' counters now counters' now' (take i calls) (take i calls') memory noted memory' noted' apart → TookTurn k le i calls b after now left noted after-noted told → TookTurn k' le' i calls' b' after' now' left' noted' after-noted' told' → Decides alike ((less_steps told ≡ less_steps told') × (counts_on after ≡ counts_on after'))
-      → BothCalled k k' le le' start after start' after' counters left counters' left' (take (i + 1) calls) (take (i + 1) calls') memory after-noted memory' after-noted' (apart_after apart i alike)
-  called_more now left now' left' noted after-noted noted' after-noted' b after b' after' apart told told' alike i called called' room room' u t t' decides =
+  pub called_more : {now left : List (View X)} {now' left' : List (View Y)} {noted after-noted noted' after-noted' : List Answer} {b after : Contents X} {b' after' : Contents Y} {apart next : Option ℕ} {told told' : Answer} {alike : Bool} {i : ℕ} {heard heard' : List Call} → i < length calls → i < length calls' → i < length memory → i < length memory'
+      → BothCalled k k' le le' start b start' b' counters now counters' now' (take i calls) (take i calls') memory noted memory' noted' apart → heard ≡ calls → heard' ≡ calls' → TookTurn k le i heard b after now left noted after-noted told → TookTurn k' le' i heard' b' after' now' left' noted' after-noted' told'
+      → Decides alike ((less_steps told ≡ less_steps told') × (counts_on after ≡ counts_on after')) → next ≡ apart_after apart i alike
+      → BothCalled k k' le le' start after start' after' counters left counters' left' (take (i + 1) calls) (take (i + 1) calls') memory after-noted memory' after-noted' next
+  called_more {now} {left} {now'} {left'} {noted} {after-noted} {noted'} {after-noted'} {b} {after} {b'} {after'} {apart} {next} {told} {told'} {alike} {i} called called' room room' u same same' took took' decides is =
+      let t = subst (λ cs. TookTurn k le i cs b after now left noted after-noted told) same took in
+      let t' = subst (λ cs. TookTurn k' le' i cs b' after' now' left' noted' after-noted' told') same' took' in
       let e = t.event in
       let e' = t'.event in
       let told_same : less_steps told ≡ less_steps e.answer = ap less_steps t.told_is in
@@ -151,7 +135,7 @@ module _ {X C Y D : Type 0} (k : Storage X C) (k' : Storage Y D) (le : X → X �
         events' = u.events' ++ e' ∷ [];
         traced = traced_more k le start counters now left calls memory noted after-noted u.events b after told i called room u.traced t;
         traced' = traced_more k' le' start' counters' now' left' calls' memory' noted' after-noted' u.events' b' after' told' i called' room' u.traced' t';
-        first_apart = apart_push u.events u.events' e e' i apart alike (event_count u.events calls i u.traced.calls_are (omega arith)) (event_count u.events' calls' i u.traced'.calls_are (omega arith)) decided u.first_apart;
+        first_apart = subst (λ o. FirstApart (u.events ++ e ∷ []) (u.events' ++ e' ∷ []) o) (sym is) (apart_push u.events u.events' e e' i apart alike (event_count u.events calls i u.traced.calls_are (omega arith)) (event_count u.events' calls' i u.traced'.calls_are (omega arith)) decided u.first_apart);
       }
 
 shared_at : {X Y : Type 0} (le : X → X → Bool) (le' : Y → Y → Bool) (events : List (Event X)) (events' : List (Event Y)) (i : ℕ) (e : Event X) (e' : Event Y) → Pointwise (Shared le le') events events' → slice_get events i ≡ Some e → slice_get events' i ≡ Some e' → LookAlike e e'
@@ -191,14 +175,15 @@ two_boxes {X} {C} {Y} {D} k k' le le' ordered ordered' start last start' last' c
       ceiling' = sweeps_bounded k' le' ordered' start'.records counters' left' events' last' trace';
     }
 
--- both lists came
-pub ran_both : {X C Y D : Type 0} (k : Storage X C) (k' : Storage Y D) (le : X → X → Bool) (le' : Y → Y → Bool) → Preorder le → Preorder le' → (start last : Contents X) (start' last' : Contents Y) (counters left : List (View X)) (counters' left' : List (View Y)) (calls calls' : List Call) (memory noted memory' noted' : List Answer) (apart : Option ℕ) (result : Comparison)
-    → BothCalled k k' le le' start last start' last' counters left counters' left' calls calls' memory noted memory' noted' apart → result ≡ verdict apart → RanBoth k k' le le' start last start' last' counters left counters' left' calls calls' memory noted memory' noted' result
-ran_both k k' le le' ordered ordered' start last start' last' counters left counters' left' calls calls' memory noted memory' noted' apart result u is = record {
+-- both lists came, and this is what the boxes, the counters and the memories were left as
+pub ran_both : {X C Y D : Type 0} {k : Storage X C} {k' : Storage Y D} {le : X → X → Bool} {le' : Y → Y → Bool} {start last end : Contents X} {start' last' end' : Contents Y} {counters left kept : List (View X)} {counters' left' kept' : List (View Y)} {calls calls' : List Call} {memory noted written memory' noted' written' : List Answer} {apart : Option ℕ} {result : Comparison}
+    → Preorder le → Preorder le' → BothCalled k k' le le' start last start' last' counters left counters' left' calls calls' memory noted memory' noted' apart → result ≡ verdict apart → end ≡ last → end' ≡ last' → kept ≡ left → kept' ≡ left' → written ≡ noted → written' ≡ noted'
+    → RanBoth k k' le le' start end start' end' counters kept counters' kept' calls calls' memory written memory' written' result
+ran_both {k = k} {k'} {le} {le'} {start} {last} {start' = start'} {last' = last'} {counters = counters} {left} {counters' = counters'} {left' = left'} {calls = calls} {calls'} {memory} {noted} {memory' = memory'} {noted' = noted'} {apart = apart} ordered ordered' u is e e' f f' w w' = rw (e, e', f, f', w, w') (record {
   apart = apart;
   result_is = is;
   called = u;
   law = λ p.
       let law = two_boxes k k' le le' ordered ordered' start last start' last' counters left counters' left' calls calls' memory noted memory' noted' u.events u.events' u.traced u.traced' p in
       (law, is ∙ agreed le le' u.events u.events' apart law.after_each_call u.first_apart);
-}
+})

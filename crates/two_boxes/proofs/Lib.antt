@@ -1,4 +1,3 @@
-pub mod Accepted
 pub mod Comparisons
 pub mod Miles
 pub mod Places
@@ -6,3 +5,4 @@ pub mod Steps
 pub mod Traces
 pub mod Turns
 pub mod Whole
+mod Loans

@@ -1,17 +1,12 @@
 -- Partnered sweeps with finger lists take equal steps.
-use Rattle.std.proofs.Common.{◌≡◌, ℕ, ◌*◌, Bool, true, List, take, Some, Ok, Err, Result, sym, refl, ap, ◌∙◌, subst, arith}
+use Rattle.std.proofs.Common.{◌≡◌, ℕ, Bool, true, List, Ok, Err, Result, sym, refl, ap, ◌∙◌, arith}
 use Rattle.heights.specs.Meaning.{Storage}
 use Rattle.heights.specs.Order.{Preorder}
 use Rattle.counters.specs.Calls.{View}
 use Rattle.counters.specs.Fingers.{by_fingers}
-use Rattle.grid.specs.declared.Plan.{Plan}
-use Rattle.grid.specs.Alike.{Alike}
-use Rattle.ceiling.specs.Roughness.{FingerSwept}
-use Rattle.ceiling.proofs.Comparing.{equal_steps}
-use Rattle.siting_box.specs.Contents.{Contents, plan_terrain}
+use Rattle.siting_box.specs.Contents.{Contents}
 use Rattle.siting_box.specs.declared.denial.Denial.{Denial}
-use Rattle.siting_box.specs.declared.told.Told.{Told}
-use Rattle.siting_box.specs.Calls.{SweptPlan, SweepLeaves}
+use Rattle.siting_box.specs.Calls.{SweepLeaves}
 use Rattle.two_boxes.specs.declared.answer.Answer.{Answer}
 use Rattle.two_boxes.specs.declared.answer.Answer.TheVariants as answer
 use Rattle.runs.specs.Calling.{Form, opens, alters, sweeps, tells, shares, nears, totals}
@@ -19,8 +14,7 @@ use Rattle.two_boxes.specs.Running.{answer_of, StepOf}
 use Rattle.two_boxes.specs.Agreeing.{less_steps, steps_told}
 use Rattle.runs.proofs.Miles.{swept_miles}
 use Rattle.runs.proofs.Couples.{Compares}
-use Rattle.runs.proofs.Boxes.{Paired, some_plan}
-use Rattle.runs.proofs.Grids.{paired_alike}
+use Rattle.runs.proofs.Boxes.{Paired}
 
 -- a call whose answers tell no steps
 pub no_steps : {A C : Type 0} (shows : A → Answer) (r : Result A (Denial C)) (told : Answer) → ((a : A) → steps_told (shows a) ≡ 0) → told ≡ answer_of shows r → steps_told told ≡ 0

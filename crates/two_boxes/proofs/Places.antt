@@ -1,5 +1,6 @@
 -- The places of counters never change over the trace of a box.
-use Rattle.std.proofs.Common.{◌≡◌, ℕ, zero, suc, ◌+◌, ◌%◌, Bool, List, [], ◌∷◌, length, set, Some, None, Ok, Err, Result, sym, refl, ap, ◌∙◌, subst, arith}
+use Rattle.std.proofs.Common.{◌≡◌, ℕ, zero, suc, ◌+◌, ◌%◌, Bool, List, [], ◌∷◌, length, set, Some, Ok, Err, Result, sym, refl, ap, ◌∙◌, subst, arith}
+use Rattle.std.proofs.lemmas.Option.{same_Some}
 use Rattle.std.specs.List.{slice_get}
 use Rattle.std.proofs.lemmas.List.{length-set}
 use Rattle.heights.specs.Meaning.{Storage}
@@ -31,13 +32,10 @@ step_places {X} k le totals bytes before after old new told s = ap (λ (v : View
 abbrev HasPlaces : {X : Type 0} → List (View X) → ℕ → ℕ → Type 0
 HasPlaces {X} counters n places = (v : View X) × (slice_get counters n ≡ Some v) × (v.places ≡ places)
 
-same_view : {X : Type 0} (u v : View X) → Some u ≡ Some v → u ≡ v
-same_view u v e = cc
-
 -- a changed counter that keeps its places has them still
 places_kept : {X : Type 0} (counters : List (View X)) (m n places : ℕ) (old new : View X) → slice_get counters m ≡ Some old → new.places ≡ old.places → HasPlaces (set counters m new) n places → HasPlaces counters n places
 places_kept [] m n places old new e same h = h
-places_kept (u ∷ counters) zero zero places old new e same h = (u, refl, ap (λ v. v.places) (same_view u old e) ∙ sym same ∙ ap (λ v. v.places) (same_view new h.0 h.1) ∙ h.2)
+places_kept (u ∷ counters) zero zero places old new e same h = (u, refl, ap (λ v. v.places) (same_Some u old e) ∙ sym same ∙ ap (λ v. v.places) (same_Some new h.0 h.1) ∙ h.2)
 places_kept (u ∷ counters) zero (suc n) places old new e same h = h
 places_kept (u ∷ counters) (suc m) zero places old new e same h = h
 places_kept (u ∷ counters) (suc m) (suc n) places old new e same h = places_kept counters m n places old new e same h

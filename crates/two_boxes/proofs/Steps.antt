@@ -1,198 +1,88 @@
--- Partnered calls on paired boxes show the same and leave paired boxes.
-use Rattle.std.proofs.Common.{◌≡◌, ℕ, ◌+◌, ◌*◌, ◌/◌, ◌%◌, ◌<◌, Bool, true, false, eqb, ltb, leb, List, [], ◌∷◌, length, is_some, is_ok, Some, None, Ok, Err, sum, Option, Result, sym, refl, ap, ◌∙◌, subst, arith}
-use Rattle.std.specs.List.{AllByRecursion as All}
-use Rattle.std.proofs.lemmas.Nat.{div-mul-add, mod-mul-add}
-use Rattle.std.proofs.lemmas.Bool.{and_parts, ltb-true, true≢false}
+-- Partnered calls on paired boxes are answered alike and leave paired boxes: an answer shows what a run sees, and the steps.
+use Rattle.std.proofs.Common.{◌≡◌, ℕ, Bool, true, List, length, Some, Ok, Err, Result, sym, refl, ap, ◌∙◌, arith}
 use Rattle.heights.specs.Meaning.{Storage}
 use Rattle.counters.specs.Calls.{View}
-use Rattle.grid.specs.declared.Place.{Place}
-use Rattle.grid.specs.declared.Plan.{Plan}
-use Rattle.grid.specs.declared.CellRecord.{CellRecord}
-use Rattle.grid.specs.Terrain.{Inside}
-use Rattle.grid.specs.Window.{count_at, window_size, share_at}
 use Rattle.siting_box.specs.declared.denial.Denial.{Denial}
 use Rattle.siting_box.specs.declared.told.Told.{Told}
-use Rattle.siting_box.specs.Contents.{Contents, lawful_sizes, well_fitted, plan_terrain, radius_of, is_swept, all_swept, Counted}
-use Rattle.siting_box.specs.Stored.{read_first}
+use Rattle.siting_box.specs.Contents.{Contents, well_fitted, Counted, total_on}
 use Rattle.siting_box.specs.Denials.{number, denied_by, first_no}
-use Rattle.siting_box.specs.Calls.{has_cell, row_left, has_places, open_questions, OpenLeaves, FirstUnread, alter_questions, AlterLeaves, CellUnread, sweep_questions, SweepLeaves, tell_questions, TellAnswer, share_questions, ShareAnswer, nearest_questions, NearestAnswer, total_questions, TotalAnswer}
-use Rattle.siting_box.proofs.Counting.{open_keeps, alter_keeps, sweep_keeps}
-use Rattle.grid.specs.Alike.{Alike}
-use Rattle.agreement.proofs.Ranks.{counts_agree, nearest_agree}
+use Rattle.siting_box.specs.Calls.{total_questions, TotalAnswer}
 use Rattle.runs.specs.Calling.{Form, opens, alters, sweeps, tells, shares, nears, totals, brings}
+use Rattle.runs.specs.Running as run
 use Rattle.two_boxes.specs.declared.answer.Answer.{Answer}
-use Rattle.two_boxes.specs.declared.answer.Answer.TheVariants as answer
-use Rattle.runs.specs.Running.{cell_of}
-use Rattle.two_boxes.specs.Running.{denial_answer, answer_of, StepOf}
+use Rattle.two_boxes.specs.declared.answer.Answer.TheVariants.{Denied, Done, Swept, Told as Counts, Share, Nearest, Total}
+use Rattle.two_boxes.specs.Running.{Answered, answer_of, StepOf}
 use Rattle.two_boxes.specs.Agreeing.{less_steps}
 use Rattle.runs.proofs.Couples.{Compares}
-use Rattle.runs.proofs.Readings.{Coupled, first_alike, heights_alike, failures_alike, one_height}
-use Rattle.runs.proofs.Denials.{open_alike, alter_alike, alter_reads}
-use Rattle.runs.proofs.Boxes.{Paired, same_paired, opened_paired, altered_paired, swept_paired}
-use Rattle.runs.proofs.Grids.{paired_alike}
-use Rattle.runs.proofs.Counts.{paired_counts}
-use Rattle.runs.proofs.Cells.{nothing, same_some, all_yes, six, unasked, no_cell, same_cell}
+use Rattle.runs.proofs.Readings.{Coupled}
+use Rattle.runs.proofs.Boxes.{Paired}
+use Rattle.runs.proofs.Cells.{unasked, no_cell}
+use Rattle.runs.proofs.Steps as alike
 
--- equal numbers and cells are equal denials
-same_denied : (n m : ℕ) (a b : Option Place) → n ≡ m → a ≡ b → answer.Denied n a ≡ answer.Denied m b
-same_denied n m a b e f = ap (λ t. answer.Denied t a) e ∙ ap (answer.Denied m) f
+-- what an answer shows
+abbrev pub shown : Answer → run.Outcome
+shown (Denied number cell) = run.denied number cell
+shown Done = run.done
+shown (Swept steps) = run.swept
+shown (Counts count cells) = run.told count cells
+shown (Share thousandths) = run.shared thousandths
+shown (Nearest found) = run.nearest found
+shown (Total sum) = run.totalled sum
+
+-- an answer that shows this, with no steps
+abbrev told_of : run.Outcome → Answer
+told_of (run.denied number cell) = Denied number cell
+told_of run.done = Done
+told_of run.swept = Swept 0
+told_of (run.told count cells) = Counts count cells
+told_of (run.shared thousandths) = Share thousandths
+told_of (run.nearest found) = Nearest found
+told_of (run.totalled sum) = Total sum
+
+told_shown : (a : Answer) → told_of (shown a) ≡ less_steps a
+told_shown (Denied number cell) = refl
+told_shown Done = refl
+told_shown (Swept steps) = refl
+told_shown (Counts count cells) = refl
+told_shown (Share thousandths) = refl
+told_shown (Nearest found) = refl
+told_shown (Total sum) = refl
+
+-- the result of a call shows what its answer does
+result_seen : {A C : Type 0} (shows : A → Answer) (r : Result A (Denial C)) → shown (answer_of shows r) ≡ run.outcome_of (λ a. shown (shows a)) r
+result_seen shows (Ok a) = refl
+result_seen shows (Err d) = refl
+
+seen : {A C : Type 0} {questions : List (ℕ × Bool)} {Promise : Result A (Denial C) → Type 0} (shows : A → Answer) {told : Answer} → Answered questions Promise shows told → run.Answered questions Promise (λ a. shown (shows a)) (shown told)
+seen shows s = record { result = s.result; denial = s.denial; leaves = s.kept; shown = ap shown s.told_is ∙ result_seen shows s.result }
+
+total_seen : {X C : Type 0} (le : X → X → Bool) (b : Contents X) (r : Result ℕ (Denial C)) → denied_by r ≡ first_no (total_questions b) → TotalAnswer le b r → shown (answer_of (λ sum. Total sum) r) ≡ run.total_shows (first_no (total_questions b)) (total_on b)
+total_seen le b (Ok sum) q l = ap run.totalled l.on_record ∙ ap (λ n. run.total_shows n (total_on b)) q
+total_seen le b (Err d) q l =
+    ap (run.denied (number d)) (no_cell d (λ six. unasked 6 (total_questions b) (λ z. omega arith, (λ z. omega arith, tt)) (sym q ∙ ap Some six))) ∙ ap (λ n. run.total_shows n (total_on b)) q
+
+-- a step of a box is a step as a run sees it
+step_seen : {X C : Type 0} (k : Storage X C) (le : X → X → Bool) (f : Form) (bytes : List ℕ) (before after : Contents X) (old new : View X) (told : Answer) → StepOf k le f bytes before after old new told → run.StepOf k le f bytes before after old new (shown told)
+step_seen k le (opens width rows radius) bytes before after old new told s = seen (λ _. Done) s.0
+step_seen k le (alters x y) bytes before after old new told s = seen (λ _. Done) s.0
+step_seen k le sweeps bytes before after old new told s = seen (λ steps. Swept steps) s
+step_seen k le (tells x y) bytes before after old new told s = record { unchanged = s.1; answered = seen (λ (t : Told). Counts t.count t.cells) s.0 }
+step_seen k le (shares x y) bytes before after old new told s = record { unchanged = s.1; answered = seen (λ share. Share share) s.0 }
+step_seen k le (nears x y) bytes before after old new told s = record { unchanged = s.1; answered = seen (λ found. Nearest found) s.0 }
+step_seen k le totals bytes before after old new told s = (s.1, ap shown s.0.told_is ∙ total_seen le before s.0.result s.0.denial s.0.kept)
 
 -- after two calls the boxes are paired, and the answers are equal less the steps
 pub record Together {X Y : Type 0} (P : X → Y → Type 0) (after : Contents X) (after' : Contents Y) (told told' : Answer) : Type 0 where
   pub paired : Paired P after after'
   pub answers : less_steps told ≡ less_steps told'
 
--- the column and the row of an index
-same_place : (width x y x' y' : ℕ) → x < width → x' < width → y * width + x ≡ y' * width + x' → (x ≡ x') × (y ≡ y')
-same_place width x y x' y' h h' e =
-    (sym (mod-mul-add y width x h) ∙ ap (λ n. n % width) e ∙ mod-mul-add y' width x' h', sym (div-mul-add y width x h) ∙ ap (λ n. n / width) e ∙ div-mul-add y' width x' h')
-
--- a cell of the plan lies in its grid
-has_inside : {X : Type 0} (o : Option Plan) (records : List (CellRecord X)) (x y : ℕ) → has_cell o x y ≡ true → Inside (plan_terrain o records) (record { x = x; y = y })
-has_inside None records x y e = absurd (true≢false (sym e))
-has_inside (Some p) records x y e =
-    let parts = and_parts (ltb x p.width) (ltb y p.rows) e in
-    (ltb-true x p.width parts.0, ltb-true y p.rows parts.1)
-
-module _ {X C Y D : Type 0} (P : X → Y → Type 0) (k : Storage X C) (k' : Storage Y D) (le : X → X → Bool) (le' : Y → Y → Bool) (before after : Contents X) (before' after' : Contents Y) (h : Paired P before before') where
-  denied_together : (d : Denial C) (d' : Denial D) → after ≡ before → after' ≡ before' → number d ≡ number d' → cell_of d ≡ cell_of d' → Together P after after' (denial_answer d) (denial_answer d')
-  denied_together d d' e e' n c = record { paired = same_paired P before after before' after' e e' h; answers = same_denied (number d) (number d') (cell_of d) (cell_of d') n c }
-
-  open_together : (width rows radius : ℕ) (bytes bytes' : List ℕ) → Coupled P k k' (width * rows) bytes bytes' → (r : Result Unit (Denial C)) (r' : Result Unit (Denial D)) → denied_by r ≡ first_no (open_questions k before width rows radius bytes) → denied_by r' ≡ first_no (open_questions k' before' width rows radius bytes')
-      → OpenLeaves k width rows radius bytes before after r → OpenLeaves k' width rows radius bytes' before' after' r' → Together P after after' (answer_of (λ _. answer.Done) r) (answer_of (λ _. answer.Done) r')
-  open_together width rows radius bytes bytes' c (Ok a) (Ok a') q q' l l' =
-      let asked = all_yes (open_questions k before width rows radius bytes) (sym q) in
-      let read = first_alike P k k' bytes bytes' (width * rows) (c.readings asked.1.1.0) in
-      let both = heights_alike P (read_first k bytes (width * rows)) (read_first k' bytes' (width * rows)) l.heights l'.heights read l.read l'.read in
-      record { paired = opened_paired P k k' width rows radius bytes bytes' before after before' after' h.fitted asked.0 asked.1.0 l l' both; answers = refl }
-  open_together width rows radius bytes bytes' c (Ok a) (Err d') q q' l l' = absurd (nothing (number d') (q' ∙ sym (open_alike P k k' before before' width rows radius bytes bytes' h.fitted c) ∙ sym q))
-  open_together width rows radius bytes bytes' c (Err d) (Ok a') q q' l l' = absurd (nothing (number d) (q ∙ open_alike P k k' before before' width rows radius bytes bytes' h.fitted c ∙ sym q'))
-  open_together width rows radius bytes bytes' c (Err d) (Err d') q q' l l' =
-      let n : number d ≡ number d' = same_some (number d) (number d') (q ∙ open_alike P k k' before before' width rows radius bytes bytes' h.fitted c ∙ sym q') in
-      denied_together d d' l.0 l'.0 n
-      (same_cell (FirstUnread k width rows bytes) (FirstUnread k' width rows bytes') d d' n l.1 l'.1
-      (λ cause x y cause' x' y' is-six u v.
-      let long = six (lawful_sizes width rows radius) (leb (width * rows) (length before.records)) (eqb (length bytes) (width * rows * k.wide)) (is_ok (read_first k bytes (width * rows))) (sym q ∙ ap Some is-six) in
-      let read = first_alike P k k' bytes bytes' (width * rows) (c.readings long) in
-      same_place width x y x' y' u.0 v.0 (failures_alike P (read_first k bytes (width * rows)) (read_first k' bytes' (width * rows)) (y * width + x) (y' * width + x') cause cause' read u.1 v.1)))
-
-  alter_together : (x y : ℕ) (bytes bytes' : List ℕ) → Coupled P k k' 1 bytes bytes' → (r : Result Unit (Denial C)) (r' : Result Unit (Denial D)) → denied_by r ≡ first_no (alter_questions k before x y bytes) → denied_by r' ≡ first_no (alter_questions k' before' x y bytes')
-      → AlterLeaves k le x y bytes before after r → AlterLeaves k' le' x y bytes' before' after' r' → Together P after after' (answer_of (λ _. answer.Done) r) (answer_of (λ _. answer.Done) r')
-  alter_together x y bytes bytes' c (Ok a) (Ok a') q q' l l' =
-      let asked = all_yes (alter_questions k before x y bytes) (sym q) in
-      let pair = one_height P (k.reads bytes) (k'.reads bytes') l.height l'.height (alter_reads P k k' bytes bytes' c asked.1.1.0) l.read l'.read in
-      record { paired = altered_paired P k k' le le' x y bytes bytes' before after before' after' h l l' pair; answers = refl }
-  alter_together x y bytes bytes' c (Ok a) (Err d') q q' l l' = absurd (nothing (number d') (q' ∙ sym (alter_alike P k k' before before' x y bytes bytes' h.plans c) ∙ sym q))
-  alter_together x y bytes bytes' c (Err d) (Ok a') q q' l l' = absurd (nothing (number d) (q ∙ alter_alike P k k' before before' x y bytes bytes' h.plans c ∙ sym q'))
-  alter_together x y bytes bytes' c (Err d) (Err d') q q' l l' =
-      let n : number d ≡ number d' = same_some (number d) (number d') (q ∙ alter_alike P k k' before before' x y bytes bytes' h.plans c ∙ sym q') in
-      denied_together d d' l.0 l'.0 n
-      (same_cell (CellUnread k x y bytes) (CellUnread k' x y bytes') d d' n l.1 l'.1 (λ cause x₁ y₁ cause' x₂ y₂ six u v. (u.1 ∙ sym v.1, u.2 ∙ sym v.2)))
-
-  sweep_alike : (places : ℕ) → first_no (sweep_questions before places) ≡ first_no (sweep_questions before' places)
-  sweep_alike places = ap (λ (o : Option Plan). first_no ((1, is_some o) ∷ ((7, row_left o) ∷ ((8, has_places o places) ∷ [])))) h.plans
-
-  sweep_together : (old new : View X) (old' new' : View Y) → old.places ≡ old'.places → (r : Result ℕ (Denial C)) (r' : Result ℕ (Denial D)) → denied_by r ≡ first_no (sweep_questions before old.places) → denied_by r' ≡ first_no (sweep_questions before' old'.places)
-      → SweepLeaves le before after old new r → SweepLeaves le' before' after' old' new' r' → Together P after after' (answer_of (λ steps. answer.Swept steps) r) (answer_of (λ steps. answer.Swept steps) r')
-  sweep_together old new old' new' e (Ok m) (Ok m') q q' l l' =
-      let asked = all_yes (sweep_questions before old.places) (sym q) in
-      let left : ltb l.plan.swept l.plan.rows ≡ true = ap row_left (sym l.plan_is) ∙ asked.1.0 in
-      record { paired = swept_paired P le le' before after before' after' old new old' new' m m' h l l' (ltb-true l.plan.swept l.plan.rows left); answers = refl }
-  sweep_together old new old' new' e (Ok m) (Err d') q q' l l' = absurd (nothing (number d') (q' ∙ ap (λ n. first_no (sweep_questions before' n)) (sym e) ∙ sym (sweep_alike old.places) ∙ sym q))
-  sweep_together old new old' new' e (Err d) (Ok m') q q' l l' = absurd (nothing (number d) (q ∙ sweep_alike old.places ∙ ap (λ n. first_no (sweep_questions before' n)) e ∙ sym q'))
-  sweep_together old new old' new' e (Err d) (Err d') q q' l l' =
-      let n : number d ≡ number d' = same_some (number d) (number d') (q ∙ sweep_alike old.places ∙ ap (λ m. first_no (sweep_questions before' m)) e ∙ sym q') in
-      let no_six : number d ≡ 6 → ⊥ = λ six. unasked 6 (sweep_questions before old.places) (λ e. omega arith, (λ e. omega arith, (λ e. omega arith, tt))) (sym q ∙ ap Some six) in
-      denied_together d d' l.0 l'.0 n (no_cell d no_six ∙ sym (no_cell d' (λ six. no_six (n ∙ six))))
-
-  -- calls that ask and change nothing
-  asked_together : {A : Type 0} (questions questions' : List (ℕ × Bool)) (Answers : Result A (Denial C) → Type 0) (Answers' : Result A (Denial D) → Type 0) (shows : A → Answer) → after ≡ before → after' ≡ before' → first_no questions ≡ first_no questions' → All (λ (q : ℕ × Bool). q.0 ≡ 6 → ⊥) questions
-      → (first_no questions ≡ None → (a a' : A) → Answers (Ok a) → Answers' (Ok a') → less_steps (shows a) ≡ less_steps (shows a')) → (r : Result A (Denial C)) (r' : Result A (Denial D)) → denied_by r ≡ first_no questions → denied_by r' ≡ first_no questions' → Answers r → Answers' r' → Together P after after' (answer_of shows r) (answer_of shows r')
-  asked_together questions questions' Answers Answers' shows e e' same others answers (Ok a) (Ok a') q q' l l' = record { paired = same_paired P before after before' after' e e' h; answers = answers (sym q) a a' l l' }
-  asked_together questions questions' Answers Answers' shows e e' same others answers (Ok a) (Err d') q q' l l' = absurd (nothing (number d') (q' ∙ sym same ∙ sym q))
-  asked_together questions questions' Answers Answers' shows e e' same others answers (Err d) (Ok a') q q' l l' = absurd (nothing (number d) (q ∙ same ∙ sym q'))
-  asked_together questions questions' Answers Answers' shows e e' same others answers (Err d) (Err d') q q' l l' =
-      let n : number d ≡ number d' = same_some (number d) (number d') (q ∙ same ∙ sym q') in
-      let no_six : number d ≡ 6 → ⊥ = λ six. unasked 6 questions others (sym q ∙ ap Some six) in
-      denied_together d d' e e' n (no_cell d no_six ∙ sym (no_cell d' (λ six. no_six (n ∙ six))))
-
-  -- answers that tell two results
-  shown_together : (told told' shown shown' : Answer) → told ≡ shown → told' ≡ shown' → Together P after after' shown shown' → Together P after after' told told'
-  shown_together told told' shown shown' e e' t = record { paired = t.paired; answers = ap less_steps e ∙ t.answers ∙ sym (ap less_steps e') }
-
-  -- the grids compare alike
-  grids_agree : Compares le le' P → Alike le le' (plan_terrain before.plan before.records) (plan_terrain before'.plan before'.records)
-  grids_agree iso = paired_alike P le le' before before' iso h
-
-  same_radius : radius_of before.plan ≡ radius_of before'.plan
-  same_radius = ap radius_of h.plans
-
-  tell_alike : (x y : ℕ) → first_no (tell_questions before x y) ≡ first_no (tell_questions before' x y)
-  tell_alike x y = ap (λ (o : Option Plan). first_no ((1, is_some o) ∷ ((4, has_cell o x y) ∷ ((9, is_swept o y) ∷ [])))) h.plans
-
-  near_alike : (x y : ℕ) → first_no (nearest_questions before x y) ≡ first_no (nearest_questions before' x y)
-  near_alike x y = ap (λ (o : Option Plan). first_no ((1, is_some o) ∷ ((4, has_cell o x y) ∷ []))) h.plans
-
-  total_alike : first_no (total_questions before) ≡ first_no (total_questions before')
-  total_alike = ap (λ (o : Option Plan). first_no ((1, is_some o) ∷ ((10, all_swept o) ∷ []))) h.plans
-
-  same_told : (count cells count' cells' : ℕ) → count ≡ count' → cells ≡ cells' → answer.Told count cells ≡ answer.Told count' cells'
-  same_told count cells count' cells' e f = ap (λ n. answer.Told n cells) e ∙ ap (answer.Told count') f
-
-  -- partnered calls of one form on paired boxes whose counts are the defined ones
-  pub step_together : (f : Form) (bytes bytes' : List ℕ) (old new : View X) (old' new' : View Y) (told told' : Answer) → Compares le le' P → Coupled P k k' (brings f) bytes bytes' → (f ≡ sweeps → old.places ≡ old'.places) → Counted le before → Counted le' before'
-      → StepOf k le f bytes before after old new told → StepOf k' le' f bytes' before' after' old' new' told' → Together P after after' told told'
-  step_together (opens width rows radius) bytes bytes' old new old' new' told told' iso c e counted counted' s s' =
-      shown_together told told' _ _ s.0.told_is s'.0.told_is (open_together width rows radius bytes bytes' c s.0.result s'.0.result s.0.denial s'.0.denial s.0.kept s'.0.kept)
-  step_together (alters x y) bytes bytes' old new old' new' told told' iso c e counted counted' s s' =
-      shown_together told told' _ _ s.0.told_is s'.0.told_is (alter_together x y bytes bytes' c s.0.result s'.0.result s.0.denial s'.0.denial s.0.kept s'.0.kept)
-  step_together sweeps bytes bytes' old new old' new' told told' iso c e counted counted' s s' =
-      shown_together told told' _ _ s.told_is s'.told_is (sweep_together old new old' new' (e refl) s.result s'.result s.denial s'.denial s.kept s'.kept)
-  step_together (tells x y) bytes bytes' old new old' new' told told' iso c e counted counted' s s' =
-      let t = plan_terrain before.plan before.records in
-      let t' = plan_terrain before'.plan before'.records in
-      let q : Place = record { x = x; y = y } in
-      shown_together told told' _ _ s.0.told_is s'.0.told_is
-      (asked_together (tell_questions before x y) (tell_questions before' x y) (TellAnswer {C = C} le before x y) (TellAnswer {C = D} le' before' x y) (λ (a : Told). answer.Told a.count a.cells) s.1 s'.1 (tell_alike x y) (λ z. omega arith, (λ z. omega arith, (λ z. omega arith, tt)))
-      (λ passed a a' l l'.
-      let inside = has_inside before.plan before.records x y (all_yes (tell_questions before x y) passed).1.0 in
-      let same = counts_agree le le' t t' (grids_agree iso) (radius_of before.plan) q inside in
-      same_told a.count a.cells a'.count a'.cells
-      (l.defined counted ∙ same.same_count ∙ ap (λ r. count_at le' t' r q) same_radius ∙ sym (l'.defined counted'))
-      (l.cells ∙ same.same_size ∙ ap (λ r. window_size t' r q) same_radius ∙ sym l'.cells))
-      s.0.result s'.0.result s.0.denial s'.0.denial s.0.kept s'.0.kept)
-  step_together (shares x y) bytes bytes' old new old' new' told told' iso c e counted counted' s s' =
-      let t = plan_terrain before.plan before.records in
-      let t' = plan_terrain before'.plan before'.records in
-      let q : Place = record { x = x; y = y } in
-      shown_together told told' _ _ s.0.told_is s'.0.told_is
-      (asked_together (share_questions before x y) (share_questions before' x y) (ShareAnswer {C = C} le before x y) (ShareAnswer {C = D} le' before' x y) (λ share. answer.Share share) s.1 s'.1 (tell_alike x y) (λ z. omega arith, (λ z. omega arith, (λ z. omega arith, tt)))
-      (λ passed a a' l l'.
-      let inside = has_inside before.plan before.records x y (all_yes (tell_questions before x y) passed).1.0 in
-      let same = counts_agree le le' t t' (grids_agree iso) (radius_of before.plan) q inside in
-      ap (λ n. answer.Share n) (l.defined counted ∙ same.same_share ∙ ap (λ r. share_at le' t' r q) same_radius ∙ sym (l'.defined counted')))
-      s.0.result s'.0.result s.0.denial s'.0.denial s.0.kept s'.0.kept)
-  step_together (nears x y) bytes bytes' old new old' new' told told' iso c e counted counted' s s' =
-      let t = plan_terrain before.plan before.records in
-      let t' = plan_terrain before'.plan before'.records in
-      shown_together told told' _ _ s.0.told_is s'.0.told_is
-      (asked_together (nearest_questions before x y) (nearest_questions before' x y) (NearestAnswer {C = C} le before x y) (NearestAnswer {C = D} le' before' x y) (λ found. answer.Nearest found) s.1 s'.1 (near_alike x y) (λ z. omega arith, (λ z. omega arith, tt))
-      (λ passed a a' l l'.
-      let inside = has_inside before.plan before.records x y (all_yes (nearest_questions before x y) passed).1.0 in
-      ap (λ found. answer.Nearest found) (nearest_agree le le' t t' (grids_agree iso) (record { x = x; y = y }) inside a a' l l'))
-      s.0.result s'.0.result s.0.denial s'.0.denial s.0.kept s'.0.kept)
-  step_together totals bytes bytes' old new old' new' told told' iso c e counted counted' s s' =
-      shown_together told told' _ _ s.0.told_is s'.0.told_is
-      (asked_together (total_questions before) (total_questions before') (TotalAnswer {C = C} le before) (TotalAnswer {C = D} le' before') (λ sum. answer.Total sum) s.1 s'.1 total_alike (λ z. omega arith, (λ z. omega arith, tt))
-      (λ passed a a' l l'. ap (λ n. answer.Total n) (l.on_record ∙ ap sum (paired_counts P le le' before before' iso h counted counted') ∙ sym l'.on_record))
-      s.0.result s'.0.result s.0.denial s'.0.denial s.0.kept s'.0.kept)
+-- partnered calls of one form on paired boxes whose counts are the defined ones
+pub step_together : {X C Y D : Type 0} (P : X → Y → Type 0) (k : Storage X C) (k' : Storage Y D) (le : X → X → Bool) (le' : Y → Y → Bool) (before after : Contents X) (before' after' : Contents Y) → Paired P before before' → (f : Form) (bytes bytes' : List ℕ) (old new : View X) (old' new' : View Y) (told told' : Answer) → Compares le le' P → Coupled P k k' (brings f) bytes bytes' → (f ≡ sweeps → old.places ≡ old'.places)
+    → Counted le before → Counted le' before' → StepOf k le f bytes before after old new told → StepOf k' le' f bytes' before' after' old' new' told' → Together P after after' told told'
+step_together P k k' le le' before after before' after' h f bytes bytes' old new old' new' told told' iso c e counted counted' s s' =
+    let both = alike.step_together P k k' le le' before after before' after' h f bytes bytes' old new old' new' (shown told) (shown told') iso c e counted counted' (step_seen k le f bytes before after old new told s) (step_seen k' le' f bytes' before' after' old' new' told' s') in
+    record { paired = both.paired; answers = sym (told_shown told) ∙ ap told_of both.outcomes ∙ told_shown told' }
 
 -- each call keeps the counts the defined ones, in a box whose plan fits
 pub step_keeps : {X C : Type 0} (k : Storage X C) (le : X → X → Bool) (f : Form) (bytes : List ℕ) (before after : Contents X) (old new : View X) (told : Answer) → well_fitted before.plan (length before.records) ≡ true → Counted le before → StepOf k le f bytes before after old new told → Counted le after
-step_keeps k le (opens width rows radius) bytes before after old new told fit counted s = open_keeps le k width rows radius bytes before after s.0.result s.0.kept counted
-step_keeps k le (alters x y) bytes before after old new told fit counted s = alter_keeps k le x y bytes before after s.0.result s.0.kept fit counted
-step_keeps k le sweeps bytes before after old new told fit counted s = sweep_keeps le before after old new s.result s.kept fit counted
-step_keeps k le (tells x y) bytes before after old new told fit counted s = subst (Counted le) (sym s.1) counted
-step_keeps k le (shares x y) bytes before after old new told fit counted s = subst (Counted le) (sym s.1) counted
-step_keeps k le (nears x y) bytes before after old new told fit counted s = subst (Counted le) (sym s.1) counted
-step_keeps k le totals bytes before after old new told fit counted s = subst (Counted le) (sym s.1) counted
+step_keeps k le f bytes before after old new told fit counted s = alike.step_keeps k le f bytes before after old new (shown told) fit counted (step_seen k le f bytes before after old new told s)

@@ -1,23 +1,23 @@
 -- What the calls keep over the trace of a box, and what two boxes share after each call.
-use Rattle.std.proofs.Common.{◌≡◌, ℕ, zero, suc, ◌+◌, ◌%◌, ◌<◌, Bool, true, List, [], ◌∷◌, ◌++◌, map, length, Some, None, Ok, Err, sum, Result, sym, refl, ap, ◌∙◌, subst, arith}
+use Rattle.std.proofs.Common.{◌≡◌, ℕ, suc, ◌+◌, ◌%◌, ◌<◌, Bool, true, List, [], ◌∷◌, ◌++◌, map, length, Some, Ok, sum, Result, sym, refl, ap, ◌∙◌, subst, arith}
+use Rattle.std.proofs.lemmas.List.{length-map}
 use Rattle.std.specs.List.{slice_get}
 use Rattle.heights.specs.Meaning.{Storage}
 use Rattle.heights.specs.Order.{Preorder}
 use Rattle.counters.specs.Calls.{View}
 use Rattle.grid.specs.declared.CellRecord.{CellRecord}
-use Rattle.siting_box.specs.Contents.{Contents, contents, well_fitted, plan_terrain, all_swept, counts_on, total_on, Counted}
+use Rattle.siting_box.specs.Contents.{Contents, well_fitted, plan_terrain, all_swept, counts_on, Counted}
 use Rattle.siting_box.proofs.Totals.{total_defined}
-use Rattle.runs.specs.declared.call.Call.{Call}
 use Rattle.runs.specs.Calling.{sweeps, form, brought, brings}
 use Rattle.runs.specs.Matching.{ReadAt, Matched}
 use Rattle.two_boxes.specs.Matching.{EqualPlacesInTurn}
 use Rattle.runs.specs.Running.{new_box}
 use Rattle.two_boxes.specs.Running.{Event, Step, StepOf, Turn, Trace, counters_after}
 use Rattle.runs.specs.Pointwise.{Pointwise}
-use Rattle.two_boxes.specs.Agreeing.{defined_total, SameTotal, Shared}
+use Rattle.two_boxes.specs.Agreeing.{SameTotal, Shared}
 use Rattle.runs.proofs.Couples.{Compares, nth_map}
-use Rattle.runs.proofs.Readings.{OneAlike, one_alike, Coupled, coupled}
-use Rattle.runs.proofs.Boxes.{Paired, new_paired, fits'}
+use Rattle.runs.proofs.Readings.{one_alike, Coupled, coupled}
+use Rattle.runs.proofs.Boxes.{Paired, new_paired}
 use Rattle.runs.proofs.Counts.{paired_counts}
 use Rattle.two_boxes.proofs.Steps.{step_together, step_keeps}
 use Rattle.two_boxes.proofs.Miles.{step_miles}
@@ -134,17 +134,13 @@ module _ {X C Y D : Type 0} (P : X → Y → Type 0) (k : Storage X C) (k' : Sto
       let now = event_together e e' (partnered 0 e e' refl refl) paired (subst (Good le) (sym at) good) (subst (Good le') (sym at') good') trace.0.step trace'.0.step in
       (now.shared, traces_together events events' (suc i) (suc i') e.after last e'.after last' (counters_after i counters e.new) left (counters_after i' counters' e'.new) left' (omega arith) (λ j. partnered (suc j)) now.paired now.good now.good' trace.1 trace'.1)
 
-length_calls : {X : Type 0} (events : List (Event X)) → length (map (λ e. e.call) events) ≡ length events
-length_calls [] = refl
-length_calls (e ∷ events) = ap suc (length_calls events)
-
 -- lives of new boxes that matching lists of calls come to
 pub matched_traces : {X C Y D : Type 0} (k : Storage X C) (k' : Storage Y D) (le : X → X → Bool) (le' : Y → Y → Bool) → Preorder le → Preorder le' → (records : List (CellRecord X)) (records' : List (CellRecord Y)) (counters left : List (View X)) (counters' left' : List (View Y)) (events : List (Event X)) (events' : List (Event Y)) (last : Contents X) (last' : Contents Y)
     → length records ≡ length records' → Matched k k' le le' (map (λ e. e.call) events) (map (λ e. e.call) events') → EqualPlacesInTurn (map (λ e. e.call) events) counters counters' → Trace k le 0 (new_box records) counters events last left → Trace k' le' 0 (new_box records') counters' events' last' left' → Pointwise (Shared le le') events events'
 matched_traces {X} {C} {Y} {D} k k' le le' ordered ordered' records records' counters left counters' left' events events' last last' fitted m equal trace trace' =
     let calls = map (λ (e : Event X). e.call) events in
     let calls' = map (λ (e : Event Y). e.call) events' in
-    let long : length events ≡ length events' = sym (length_calls events) ∙ m.long ∙ length_calls events' in
+    let long : length events ≡ length events' = sym (length-map events (λ (e : Event X). e.call)) ∙ m.long ∙ length-map events' (λ (e : Event Y). e.call) in
     traces_together (ReadAt k k' calls calls') k k' le le' ordered ordered' m.order events events' 0 0 (new_box records) last (new_box records') last' counters left counters' left' long
     (λ j e e' at at'.
     let here = nth_map (λ (f : Event X). f.call) events j e at in

@@ -1,9 +1,10 @@
 -- The steps of a whole sweep in the trace of a box.
-use Rattle.std.proofs.Common.{◌≡◌, ℕ, zero, suc, ◌+◌, ◌-◌, ◌*◌, ◌<◌, ◌≤◌, Bool, true, false, cond, eqb, ltb, ◌⊎◌, List, [], ◌∷◌, ◌++◌, length, take, drop, Some, None, Ok, Err, sum_by, Option, Result, sym, refl, ap, ◌∙◌, subst, inl, inr, arith}
+use Rattle.std.proofs.Common.{◌≡◌, ℕ, zero, suc, ◌+◌, ◌-◌, ◌*◌, ◌<◌, ◌≤◌, Bool, true, false, cond, eqb, List, [], ◌∷◌, ◌++◌, length, take, drop, Some, None, Ok, Err, sum_by, Option, Result, sym, refl, ap, ◌∙◌, subst, arith}
+use Rattle.std.proofs.lemmas.Option.{same_Some}
 use Rattle.std.specs.List.{range_with_len, AllByRecursion as All}
 use Rattle.std.proofs.lemmas.List.{take_at, length-take-le}
 use Rattle.std.proofs.lemmas.List.Sums.{sum_by-cons}
-use Rattle.std.proofs.lemmas.Bool.{eqb-true, eq-eqb, ne_eqb, ltb-true, true≢false}
+use Rattle.std.proofs.lemmas.Bool.{eqb-true, eq-eqb, ne_eqb, true≢false}
 use Rattle.heights.specs.Meaning.{Storage}
 use Rattle.heights.specs.Order.{Preorder}
 use Rattle.counters.specs.Calls.{View}
@@ -11,11 +12,10 @@ use Rattle.counters.specs.Fingers.{by_fingers}
 use Rattle.grid.specs.declared.Plan.{Plan}
 use Rattle.grid.specs.declared.CellRecord.{CellRecord}
 use Rattle.grid.specs.Terrain.{Terrain, heights_of}
-use Rattle.ceiling.specs.Roughness.{roughness, FingerSwept}
+use Rattle.ceiling.specs.Roughness.{FingerSwept}
 use Rattle.ceiling.proofs.Ceiling.{ceiling}
 use Rattle.siting_box.specs.declared.denial.Denial.{Denial}
-use Rattle.siting_box.specs.declared.told.Told.{Told}
-use Rattle.siting_box.specs.Contents.{Contents, contents, fits_in, well_fitted, plan_terrain, radius_of, all_swept}
+use Rattle.siting_box.specs.Contents.{Contents, fits_in, well_fitted, plan_terrain, radius_of, all_swept}
 use Rattle.siting_box.specs.Denials.{denied_by, first_no}
 use Rattle.siting_box.specs.Calls.{SweptPlan, SweepLeaves, OpenLeaves, AlterLeaves, sweep_questions, row_left, with_row}
 use Rattle.siting_box.proofs.Plans.{fitting}
@@ -23,14 +23,13 @@ use Rattle.two_boxes.specs.declared.answer.Answer.{Answer}
 use Rattle.two_boxes.specs.declared.answer.Answer.TheVariants as answer
 use Rattle.runs.specs.Calling.{Form, opens, alters, sweeps, tells, shares, nears, totals, form, brought}
 use Rattle.runs.specs.Running.{new_box}
-use Rattle.two_boxes.specs.Running.{Event, Answered, answer_of, Step, StepOf, Turn, Trace, counters_after}
-use Rattle.two_boxes.specs.Agreeing.{steps_told, ByFingers, none_swept, box_after, WholeSweep, SweepsBounded}
+use Rattle.two_boxes.specs.Running.{Event, answer_of, StepOf, Trace, counters_after}
+use Rattle.two_boxes.specs.Agreeing.{steps_told, ByFingers, none_swept, box_after, SweepsBounded}
 use Rattle.runs.proofs.Cells.{all_yes}
-use Rattle.runs.proofs.Boxes.{some_plan}
 use Rattle.runs.proofs.Grids.{all_heights}
 use Rattle.runs.proofs.Miles.{row_swept}
 use Rattle.two_boxes.proofs.Miles.{no_steps}
-use Rattle.two_boxes.proofs.Traces.{Good, new_good, turn_good, Later, later}
+use Rattle.two_boxes.proofs.Traces.{Good, new_good, turn_good, later}
 
 -- an event among those of a whole sweep: it leaves the box and tells no steps, or it is an accepted sweep
 data Quiet {X : Type 0} (le : X → X → Bool) (before after : Contents X) (old new : View X) (told : Answer) : Type 0 where
@@ -112,7 +111,7 @@ row_more le t r from to steps more left row rest =
 swept_at : {X : Type 0} (le : X → X → Bool) (before after : Contents X) (old new : View X) (steps : ℕ) (t : Terrain X) (r swept : ℕ) → well_fitted before.plan (length before.records) ≡ true → At before t r swept → SweptPlan le before after old new steps → At after t r (swept + 1)
 swept_at {X} le before after old new steps t r swept fits at s =
     let p = s.plan in
-    let same : at.plan ≡ s.plan = some_plan at.plan s.plan (sym at.plan_is ∙ s.plan_is) in
+    let same : at.plan ≡ s.plan = same_Some at.plan s.plan (sym at.plan_is ∙ s.plan_is) in
     let n = p.width * p.rows in
     let fit : fits_in p (length before.records) ≡ true = subst (λ o. well_fitted o (length before.records) ≡ true) s.plan_is fits in
     let room : p.width * p.rows ≤ length before.records = (fitting p (length before.records) fit).recorded in
@@ -130,7 +129,7 @@ swept_at {X} le before after old new steps t r swept fits at s =
 -- the row that a sweep counted by fingers swept
 swept_row : {X : Type 0} (le : X → X → Bool) (before after : Contents X) (old new : View X) (steps : ℕ) (t : Terrain X) (r swept : ℕ) → At before t r swept → by_fingers old.rule ≡ true → SweptPlan le before after old new steps → FingerSwept le t r swept steps
 swept_row le before after old new steps t r swept at fingers s =
-    let same : s.plan ≡ at.plan = some_plan s.plan at.plan (sym s.plan_is ∙ at.plan_is) in
+    let same : s.plan ≡ at.plan = same_Some s.plan at.plan (sym s.plan_is ∙ at.plan_is) in
     let here = row_swept le before after old new steps s fingers in
     let moved : FingerSwept le (plan_terrain (Some at.plan) before.records) at.plan.radius at.plan.swept steps = subst (λ (q : Plan). FingerSwept le (plan_terrain (Some q) before.records) q.radius q.swept steps) same here in
     subst (λ u. FingerSwept le u r swept steps) at.grid_is (subst (λ n. FingerSwept le (plan_terrain (Some at.plan) before.records) n swept steps) at.radius_is (subst (λ n. FingerSwept le (plan_terrain (Some at.plan) before.records) at.plan.radius n steps) at.swept_is moved))

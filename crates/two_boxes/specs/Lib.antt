@@ -1,4 +1,5 @@
 pub mod Matching
 pub mod Running
 pub mod Agreeing
+pub mod Sides
 pub mod Comparing

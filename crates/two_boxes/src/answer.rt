@@ -2,9 +2,10 @@
 use grid::{Higher, Place};
 
 // The answer to one of the seven calls, or its denial.
-#[derive(Clone, Copy, PartialEq, Eq)]
+#[derive(Clone, Copy, PartialEq, Eq, Debug)]
 pub enum Answer {
-    // the number of the question that was answered no, and the cell whose stored height does not read, if that is why
+    // the number of the question that was answered no, and the cell whose stored height does not read, if that is why; numbers,
+    // since denials at two kinds are of two types, with causes of their own
     Denied { number: u8, cell: Option<Place> },
     // to an accepted open or alter
     Done,

@@ -3,7 +3,8 @@ ghost use Rattle.std.specs.Prelude.{◌≡◌};
 ghost use Rattle.heights.specs.Meaning.{storage};
 ghost use Rattle.siting_box.specs.Boxes.{box_contents};
 ghost use Rattle.runs.specs.Calling.{form, brought};
-ghost use Rattle.two_boxes.specs.Running.{denial_answer, StepOf};
+ghost use Rattle.two_boxes.specs.declared.answer.Answer.{Answer};
+ghost use Rattle.two_boxes.specs.Running.{denial_answer, answer_of, StepOf};
 
 use crate::answer::Answer;
 use counters::counter::Counter;
@@ -12,28 +13,30 @@ use heights::height::HeightKind;
 use runs::Call;
 use siting_box::{Denial, SitingBox};
 
-// The answer that tells a denial.
-fn denied<C: Copy>(denial: Denial<C>) -> Answer
-    ensures { result ≡ denial_answer denial }
-{
-    let cell = match denial {
-        Denial::Unread { x, y, .. } => Some(Place { x, y }),
-        _ => None,
-    };
-    Answer::Denied {
-        number: denial.number(),
-        cell,
+impl<C: Copy> From<Denial<C>> for Answer {
+    ghost from_gives = { λ denial answer. answer ≡ denial_answer denial };
+
+    // The answer that tells a denial.
+    fn from(denial: Denial<C>) -> Answer {
+        let cell = match denial {
+            Denial::Unread { at, .. } => Some(at),
+            _ => None,
+        };
+        Answer::Denied {
+            number: denial.number(),
+            cell,
+        }
     }
 }
 
 // Carries out a call on a box; a sweep is given the counter.
-pub fn call_box<H: HeightKind, C: Counter<Kind = H>>(
+fn carry_out<H: HeightKind, C: Counter<Kind = H>>(
     siting: &mut SitingBox<'_, H>,
     counter: &mut C,
     call: &Call<'_>,
-) -> Answer
-    ensures step { StepOf (storage H.HeightKind.wide H.HeightKind.reads) H.Height.not_higher (form call.now) (brought call.now) (box_contents siting.old) (box_contents siting.new) (C.Counter.view counter.old) (C.Counter.view counter.new) result }
-    ensures lent { siting.new.parts.records.ghost_name ≡ siting.old.parts.records.ghost_name }
+) -> Result<Answer, Denial<H::Cause>>
+    ensures step { StepOf (storage H.HeightKind.wide H.HeightKind.reads) H.Height.not_higher (form call.now) (brought call.now) (box_contents siting.old) (box_contents siting.new) (C.Counter.view counter.old) (C.Counter.view counter.new) (answer_of (λ (answer : Answer). answer) result) }
+    ensures lent { siting.new.records.ghost_name ≡ siting.old.records.ghost_name }
 {
     match *call {
         Call::Open {
@@ -41,36 +44,33 @@ pub fn call_box<H: HeightKind, C: Counter<Kind = H>>(
             rows,
             radius,
             bytes,
-        } => match siting.open(width, rows, radius, bytes) {
-            Ok(()) => Answer::Done,
-            Err(denial) => denied(denial),
-        },
-        Call::Alter { x, y, bytes } => match siting.alter(x, y, bytes) {
-            Ok(()) => Answer::Done,
-            Err(denial) => denied(denial),
-        },
-        Call::Sweep => match siting.sweep(counter) {
-            Ok(steps) => Answer::Swept { steps },
-            Err(denial) => denied(denial),
-        },
-        Call::Tell { x, y } => match siting.tell(x, y) {
-            Ok(told) => Answer::Told {
-                count: told.count,
-                cells: told.cells,
-            },
-            Err(denial) => denied(denial),
-        },
-        Call::Share { x, y } => match siting.share(x, y) {
-            Ok(thousandths) => Answer::Share { thousandths },
-            Err(denial) => denied(denial),
-        },
-        Call::Nearest { x, y } => match siting.nearest(x, y) {
-            Ok(found) => Answer::Nearest { found },
-            Err(denial) => denied(denial),
-        },
-        Call::Total => match siting.total() {
-            Ok(sum) => Answer::Total { sum },
-            Err(denial) => denied(denial),
-        },
+        } => siting
+            .open(width, rows, radius, bytes)
+            .map(|()| Answer::Done),
+        Call::Alter { x, y, bytes } => siting.alter(Place { x, y }, bytes).map(|()| Answer::Done),
+        Call::Sweep => siting.sweep(counter).map(|steps| Answer::Swept { steps }),
+        Call::Tell { x, y } => siting.tell(Place { x, y }).map(|told| Answer::Told {
+            count: told.count,
+            cells: told.cells,
+        }),
+        Call::Share { x, y } => siting
+            .share(Place { x, y })
+            .map(|thousandths| Answer::Share { thousandths }),
+        Call::Nearest { x, y } => siting
+            .nearest(Place { x, y })
+            .map(|found| Answer::Nearest { found }),
+        Call::Total => siting.total().map(|sum| Answer::Total { sum }),
     }
+}
+
+// Carries out a call on a box, and tells its answer or its denial.
+pub fn call_box<H: HeightKind, C: Counter<Kind = H>>(
+    siting: &mut SitingBox<'_, H>,
+    counter: &mut C,
+    call: &Call<'_>,
+) -> Answer
+    ensures step { StepOf (storage H.HeightKind.wide H.HeightKind.reads) H.Height.not_higher (form call.now) (brought call.now) (box_contents siting.old) (box_contents siting.new) (C.Counter.view counter.old) (C.Counter.view counter.new) result }
+    ensures lent { siting.new.records.ghost_name ≡ siting.old.records.ghost_name }
+{
+    carry_out(siting, counter, call).unwrap_or_else(Answer::from)
 }

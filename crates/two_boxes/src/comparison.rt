@@ -1,7 +1,7 @@
 //! How the comparison of two boxes ends.
 
-// How it ends.
-#[derive(Clone, Copy, PartialEq, Eq)]
+// How it ends. An enum of its own, since in an `Option` nothing would say what `None` is.
+#[derive(Clone, Copy, PartialEq, Eq, Debug)]
 pub enum Comparison {
     // the lists are not equally long, or there is no counter, or no room for all answers; nothing was done
     NotComparable,

@@ -4,8 +4,6 @@
 ghost use Rattle.worked.specs.Values.{WorkedValues};
 
 // Counts, steps, roughness, nearest cells, pairs and total of the worked plan are those of the definitions.
-pub fn worked_values() -> u8
+pub fn worked_values()
     ensures { WorkedValues }
-{
-    0
-}
+{}

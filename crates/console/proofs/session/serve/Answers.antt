@@ -1,7 +1,9 @@
-use Rattle.console.proofs.Digits.{decodable, short_enough}
+use Rattle.std.proofs.Common.{◌≡◌, rules}
+use Rattle.console.specs.Refusals.{answer_of}
+use Rattle.console.proofs.Written.{served_as}
 use Rattle.console.proofs.session.serve.Goals as goal
 
-pub carry_out-requires : goal.carry_out-requires
-carry_out-requires g c =
-    decodable _ c.in-Some.text.now c.in-Some-parse.ensures
-    (short_enough c.args.line.now.is_over c.args.line.now.len c.args.line.now.bytes c.in-Some.text.now c.args.line.now.fits c.in-Some.ensures)
+pub returns-clause-served : goal.returns-clause-served
+returns-clause-served g c =
+    let told : c.unwrap_or_else.result ≡ answer_of c.carry_out.result = search rules in
+    rw told (served_as _ _ _ c.in-Some.command _ _ _ _ _ c.in-Some.ensures c.carry_out.ensures.carried)

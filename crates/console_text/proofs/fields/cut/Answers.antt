@@ -1,19 +1,15 @@
 -- The parts are those at the first space, or the whole text and nothing.
-use Rattle.std.proofs.Common.{length, sym, ◌∙◌, arith}
-use Rattle.std.proofs.lemmas.List.{take_all, drop_all}
-use Rattle.console_text.proofs.Cutting.{word_at, word_all}
+use Rattle.std.proofs.Common.{◌≡◌, ◌∙◌, ap, take, drop, rules}
+use Rattle.std.proofs.lemmas.Iterator.{IsFirst-from_position, YieldsList-from_slice}
+use borrow.Author.Tests.{tests}
+use Rattle.console_text.proofs.Cutting.{cut_at}
 use Rattle.console_text.proofs.fields.cut.Goals as goal
-
-pub returns-then-byte-eq32 : goal.returns-then-byte-eq32
-returns-then-byte-eq32 c =
-    let w = word_at c.args.text.now c.loop-i.i c.loop-i.invariant (omega arith) c.if-byte-eq32.true in
-    record { front = c.split_at.ensures.front ∙ sym w.0; back = c.split_at.ensures.back ∙ sym w.1 }
 
 pub returns : goal.returns
 returns c =
-    let text = c.args.text.now in
-    let w = word_all text (λ k h. c.loop-i.invariant k (omega arith)) in
+    let found = IsFirst-from_position _ _ _ (λ x. x ≡ 32) (λ x. x ≡ 32 → ⊥) c.position-end.ensures.ran (YieldsList-from_slice c.args.text.now cc) (λ x q k. search (rules, tests)) (λ x q k. search (rules, tests)) in
+    let parts = cut_at c.args.text.now _ found in
     record {
-      front = c.split_at-2.ensures.front ∙ take_all (length text) text (omega arith) ∙ sym w.0;
-      back = c.split_at-2.ensures.back ∙ drop_all (length text) text (omega arith) ∙ sym w.1;
+      front = c.split_at.ensures.front ∙ ap (λ n. take n c.args.text.now) c.unwrap_or.ensures ∙ parts.0;
+      back = c.split_at.ensures.back ∙ ap (λ n. drop n c.args.text.now) c.unwrap_or.ensures ∙ parts.1;
     }

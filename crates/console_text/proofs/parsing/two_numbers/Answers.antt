@@ -1,10 +1,9 @@
 -- Two number fields, found one after the other.
-use Rattle.std.proofs.Common.{ℕ, [], ◌∷◌, length, ap, true-eqb, false-eqb}
-use Rattle.std.proofs.lemmas.List.{nil_from_length}
+use Rattle.std.proofs.Common.{ℕ, [], ◌∷◌}
 use Rattle.console_text.specs.Words.{after_spaces}
 use Rattle.console_text.specs.Commands.{TwoNumbers}
 use Rattle.console_text.proofs.Numerics.{first_field, next_fields}
-use Rattle.console_text.proofs.Forms.{two_numbers}
+use Rattle.console_text.proofs.Forms.{two_numbers_or_more}
 use Rattle.console_text.proofs.parsing.two_numbers.Goals as goal
 
 pub returns-in_err-first : goal.returns-in_err-first
@@ -22,15 +21,6 @@ returns-in_err-second c =
     in
     rw c.from_residual-in_err-second.ensures none
 
-pub returns-then-is_empty : goal.returns-then-is_empty
-returns-then-is_empty c =
-    two_numbers _ _ _ _ _ c.in_ok-first.ensures c.in_ok-second.ensures (nil_from_length _ (true-eqb _ 0 c.if-is_empty.ensures))
-
-pub returns-else-is_empty : goal.returns-else-is_empty
-returns-else-is_empty c =
-    let p = c.in_ok-first.ensures in
-    let q = c.in_ok-second.ensures in
-    λ x y t.
-    let rest = next_fields _ _ _ t.a (t.b ∷ []) x p t.text_is t.first in
-    let none = next_fields _ _ _ t.b [] y q rest t.second in
-    false-eqb _ 0 c.if-is_empty.ensures (ap length none)
+pub returns : goal.returns
+returns c =
+    rw c.then_some.ensures (two_numbers_or_more _ _ _ _ _ _ c.is_empty.ensures c.in_ok-first.ensures c.in_ok-second.ensures)

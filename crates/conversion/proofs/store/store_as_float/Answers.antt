@@ -1,16 +1,17 @@
-use Rattle.std.proofs.Common.{◌≡◌, ℕ, ◌*◌, ◌/◌, length, get_or, ap, ◌∙◌, arith, w16, SFits, rules, below_more}
-use Rattle.std.proofs.lemmas.List.{get_or-set_same, get_or-set_other}
-use Rattle.conversion.proofs.Buffers.{metres_stored, metres_same, front_converted, rest_same}
+use Rattle.std.proofs.Common.{◌≡◌, replicate, ◌+◌, ◌-◌, ◌*◌, ◌/◌, ◌%◌, length, ap, ◌∙◌, sym, subst, arith, w16, SFits, rules, below_more}
+use Rattle.std.proofs.lemmas.Slice.{take-put_mid, drop-put_mid}
+use Rattle.conversion.specs.Converting.{Converted}
+use Rattle.conversion.proofs.Buffers.{pair_metres, metres_stored, metres_same, front_converted, rest_same}
 use Rattle.conversion.proofs.store.store_as_float.Goals as goal
-use Rattle.conversion.proofs.store.store_as_float.Goals.{then-left_over-eq1, else-left_over-eq1}
 
 pub loop-index-preserved : goal.loop-index-preserved
 loop-index-preserved c =
     let inv = c.loop-index.invariant in
-    let fits : SFits w16 c.from_be_bytes-metres.result = search rules in (
+    let fits : SFits w16 c.from_be_bytes.result = search rules in
+    let read = pair_metres c.args.whole.now _ c.loop-index.index c.as_chunks.ensures.front (omega arith) in (
       below_more _ _
           (λ i h. metres_same c.args.whole.now c.store_pattern.new.out c.loop-index.out (c.loop-index.index * 4) i c.store_pattern.ensures.before (omega arith) (inv.0 i h))
-          (metres_stored _ _ _ _ c.store_pattern.ensures.stored fits c.from_be_bytes-metres.ensures c.float_pattern.ensures),
+          (metres_stored _ _ _ _ c.store_pattern.ensures.stored fits (c.from_be_bytes.ensures ∙ read) c.float_pattern.ensures),
       λ k h. c.store_pattern.ensures.after k (omega arith) ∙ inv.1 k (omega arith),
     )
 
@@ -19,23 +20,12 @@ returns c =
     let inv = c.loop-index.invariant in
     let whole = c.args.whole.now in
     let filled = c.loop-index.out in
-    let after = c.if-left_over-eq1.out in
+    let front = length c.as_chunks.result.0.now * 4 in
+    let size = front + length c.as_chunks.result.1.now in
     let all : c.loop-index.index ≡ length whole / 2 = omega arith in
-    elim c.if-left_over-eq1.branch [
-      | then-left_over-eq1 w ↦
-          let at : (k : ℕ) → get_or after k 0 ≡ get_or _ k 0 = λ k. ap (λ bytes. get_or bytes k 0) w.out-is in (
-            omega arith,
-            front_converted whole after _ (omega arith) (omega arith)
-                (λ i h. metres_same whole after filled (length whole / 2 * 4) i (λ k under. at k ∙ get_or-set_other filled _ k 0 0 (omega arith)) (omega arith) (inv.0 i (omega arith)))
-                (λ _. at _ ∙ get_or-set_same filled _ 0 0 (omega arith)),
-            rest_same _ after c.args.out.now (omega arith) (λ k far. at k ∙ get_or-set_other filled _ k 0 0 (omega arith) ∙ inv.1 k (omega arith)),
-          )
-      | else-left_over-eq1 w ↦
-          let at : (k : ℕ) → get_or after k 0 ≡ get_or filled k 0 = λ k. ap (λ bytes. get_or bytes k 0) w.out-is in (
-            omega arith,
-            front_converted whole after _ (omega arith) (omega arith)
-                (λ i h. metres_same whole after filled (length whole / 2 * 4) i (λ k under. at k) (omega arith) (inv.0 i (omega arith)))
-                (λ odd. omega (arith, w.if-left_over-eq1.false)),
-            rest_same _ after c.args.out.now (omega arith) (λ k far. at k ∙ inv.1 k (omega arith)),
-          )
-    ]
+    let zeros : c.fill.new.self ≡ replicate (length whole % 2) 0 = c.fill.ensures.after (λ y h. h) ∙ ap (λ n. replicate n 0) (omega arith) in (
+      omega arith,
+      subst (Converted whole) (sym (take-put_mid front (size - front) filled c.fill.new.self size (omega arith) (omega arith)))
+          (front_converted whole filled c.fill.new.self front (omega arith) (omega arith) zeros (λ i h. inv.0 i (omega arith))),
+      drop-put_mid front (size - front) filled c.fill.new.self size (omega arith) (omega arith) (omega arith) ∙ rest_same size filled c.args.out.now (omega arith) (λ k far. inv.1 k (omega arith)),
+    )

@@ -2,13 +2,8 @@ use Rattle.std.proofs.Common.{arith}
 use Rattle.finger_list.proofs.Unlinking.{entry_gone, relocated_none, unlinked_half}
 use Rattle.finger_list.proofs.change.remove_entry.Goals as goal
 
-pub relocate-requires : goal.relocate-requires
-relocate-requires g c =
-    record {
-      half = unlinked_half c.args.entries.now c.unlink.new.entries c.args.used c.args.at c.requires.linked (omega arith) (omega arith) c.unlink.ensures;
-      above = omega arith;
-      below = omega arith;
-    }
+pub relocate-requires-clause-half : goal.relocate-requires-clause-half
+relocate-requires-clause-half g c = unlinked_half c.args.entries.now c.unlink.new.entries c.args.used c.args.at c.requires.linked (omega arith) (omega arith) c.unlink.ensures
 
 pub returns-then-at-used : goal.returns-then-at-used
 returns-then-at-used g c =

@@ -1,51 +1,39 @@
-use Rattle.std.proofs.Common.{◌+◌, ◌<◌, Bool, length, sym, ap, ◌∙◌, arith}
-use Rattle.std.proofs.lemmas.List.{get_or_read, take_all}
-use Rattle.counters.specs.Held.{tally}
-use Rattle.counters.proofs.Tallies.{tally_le_length}
-use Rattle.shift_array.specs.Entries.{heights}
-use Rattle.shift_array.proofs.Weights.{tally_more, tally_part, tally_front}
+use Rattle.std.proofs.Common.{◌∙◌, ◌^◌, Bool, rules, tests, arith}
+use Rattle.std.specs.List.{prefix_len}
+use Rattle.std.proofs.lemmas.Iterator.{YieldsList-from_slice, YieldsList-from_map}
+use Rattle.std.proofs.lemmas.Iterator.Consumers.{YieldsList-at, sum_by_from_yields_List, fits_by_from_yields_list}
+use Rattle.std.proofs.lemmas.Iterator.Search.{YieldsList-from_take_while}
+use Rattle.std.proofs.lemmas.List.Sums.{prefix_len_stops}
+use Rattle.shift_array.specs.declared.entry.Entry.{Entry}
+use Rattle.shift_array.proofs.Weights.{number, front, front_le, front_tally}
 use Rattle.shift_array.proofs.Ordered.{higher_from}
 use Rattle.shift_array.proofs.count.count_up_to.Goals as goal
 
-pub returns-then-not-is_not_higher : goal.returns-then-not-is_not_higher
-returns-then-not-is_not_higher g c =
-    let le = g.H.Height.not_higher in
-    let es = c.args.entries.now in
-    let i = c.loop-entry.entry-index in
-    let h = c.args.height in
-    let x = c.entry-item.result in
-    let lt : i < length es = omega arith in
-    λ cl.
-    c.loop-entry.invariant
-    ∙ tally_front (λ a. le a h) es i
-    (λ k d l1 l2. higher_from g.met.H.Height.ordered es i h cl d
-    (λ _. ap (λ e. le e.height h) (sym (get_or_read es i x lt c.entry-item.is d)) ∙ sym c.if-not-is_not_higher.ensures)
-    k l1 l2)
-
-pub overflow_add-count : goal.overflow_add-count
-overflow_add-count g c =
-    let es = c.args.entries.now in
+pub sum-requires-clause-fits : goal.sum-requires-clause-fits
+sum-requires-clause-fits g c =
     let p : g.row.H.Denot → Bool = λ a. g.H.Height.not_higher a c.args.height in
-    omega (
-      arith,
-      c.requires,
-      c.loop-entry.invariant,
-      tally_more p es c.loop-entry.entry-index c.entry-item.result (omega arith) c.entry-item.is (sym c.if-not-is_not_higher.ensures),
-      tally_part p es (c.loop-entry.entry-index + 1),
-      tally_le_length p (heights es),
-    )
-
-pub loop-entry-preserved : goal.loop-entry-preserved
-loop-entry-preserved g c =
-    let p : g.row.H.Denot → Bool = λ a. g.H.Height.not_higher a c.args.height in
-    omega (
-      arith,
-      c.loop-entry.invariant,
-      tally_more p c.args.entries.now c.loop-entry.entry-index c.entry-item.result (omega arith) c.entry-item.is (sym c.if-not-is_not_higher.ensures),
-    )
+    let es = c.args.entries.now in
+    fits_by_from_yields_list number (front p es) c.map.result (2 ^ 32)
+    (YieldsList-from_map _ number
+    (YieldsList-at c.map.ensures.source
+    (YieldsList-from_take_while _ (λ (e : Entry g.row.H.Denot). p e.height)
+    (YieldsList-at c.take_while.ensures.source (YieldsList-from_slice es (cc)))
+    c.take_while.ensures.closure c.take_while.ensures.done (λ x b q k. search (rules, tests))))
+    c.map.ensures.closure (λ x r q k. search (rules, tests)))
+    (omega (arith, c.requires, front_le p es))
 
 pub returns : goal.returns
 returns g c =
-    let es = c.args.entries.now in
     let p : g.row.H.Denot → Bool = λ a. g.H.Height.not_higher a c.args.height in
-    λ cl. c.loop-entry.invariant ∙ ap (λ us. tally p (heights us)) (take_all c.loop-entry.entry-index es (omega arith))
+    let es = c.args.entries.now in
+    λ climb.
+    sum_by_from_yields_List number (front p es) c.map.result c.sum.result c.sum.ensures.ran
+    (YieldsList-from_map _ number
+    (YieldsList-at c.map.ensures.source
+    (YieldsList-from_take_while _ (λ (e : Entry g.row.H.Denot). p e.height)
+    (YieldsList-at c.take_while.ensures.source (YieldsList-from_slice es (cc)))
+    c.take_while.ensures.closure c.take_while.ensures.done (λ x b q k. search (rules, tests))))
+    c.map.ensures.closure (λ x r q k. search (rules, tests)))
+    ∙ front_tally p es
+    (λ k d l1 l2. higher_from g.met.H.Height.ordered es (prefix_len (λ (e : Entry g.row.H.Denot). p e.height) es) c.args.height climb d
+    (λ l. prefix_len_stops (λ (e : Entry g.row.H.Denot). p e.height) es d l) k l1 l2)

@@ -1,32 +1,58 @@
-use Rattle.std.proofs.Common.{◌≡◌, ◌+◌, ◌<◌, [], ◌∷◌, ◌++◌, map, length, take, sym, ap, ◌∙◌, arith}
-use Rattle.std.proofs.lemmas.List.{take_more_set, map_push, take_all}
+use Rattle.std.proofs.Common.{◌≡◌, ◌<◌, true, [], ◌∷◌, ◌++◌, map, length, take, set, is_ok, sym, ap, ◌∙◌, subst, arith, rules}
+use Rattle.std.proofs.lemmas.List.{length-set, take_more_set, map_push, take_all}
 use Rattle.heights.specs.Meaning.{storage}
+use Rattle.siting_box.specs.Stored.{read_first}
 use Rattle.siting_box.specs.Fresh.{fresh, heights_read}
-use Rattle.siting_box.proofs.Readings.{within, none_fails, joins}
+use Rattle.siting_box.proofs.Chunks.{turn, all_came}
+use Rattle.siting_box.proofs.Readings.{reads, joins}
 use Rattle.siting_box.proofs.stored.fill.Goals as goal
-use Rattle.siting_box.proofs.stored.fill.Goals.{in-Ok, in_default}
 
-pub read_at-requires : goal.read_at-requires
-read_at-requires g c = within _ _ _ _ (omega arith) c.requires.enough
+pub unwrap-height-requires : goal.unwrap-height-requires
+unwrap-height-requires g c =
+    let k = storage g.H.HeightKind.wide g.H.HeightKind.reads in
+    let bytes = c.args.bytes.now in
+    let inv = c.loop-index.invariant in
+    let step = turn g.H.HeightKind.wide bytes c.loop-index.index-iterator c.next.new.self c.in-Some.index c.in-Some.stored inv.at c.in-Some.ensures.steps in
+    let before : is_ok (read_first k bytes c.in-Some.index) ≡ true = subst (λ n. is_ok (read_first k bytes n) ≡ true) step.here inv.read in
+    reads k bytes c.in-Some.index (length c.args.records.now) c.read_whole.result (step.below (length c.args.records.now) g.met.H.HeightKind.narrow.0 c.requires.enough) c.requires.all_read before (ap k.reads step.chunk_is ∙ sym c.read_whole.ensures)
+
+pub bounds-records-index : goal.bounds-records-index
+bounds-records-index g c =
+    let step = turn g.H.HeightKind.wide c.args.bytes.now c.loop-index.index-iterator c.next.new.self c.in-Some.index c.in-Some.stored c.loop-index.invariant.at c.in-Some.ensures.steps in
+    omega (arith, step.below (length c.args.records.now) g.met.H.HeightKind.narrow.0 c.requires.enough, c.loop-index.invariant.long)
+
+pub offset_bounds-records-index : goal.offset_bounds-records-index
+offset_bounds-records-index g c =
+    let step = turn g.H.HeightKind.wide c.args.bytes.now c.loop-index.index-iterator c.next.new.self c.in-Some.index c.in-Some.stored c.loop-index.invariant.at c.in-Some.ensures.steps in
+    let below : c.in-Some.index < length c.args.records.now = step.below (length c.args.records.now) g.met.H.HeightKind.narrow.0 c.requires.enough in
+    search rules
 
 pub loop-index-preserved : goal.loop-index-preserved
 loop-index-preserved g c =
-    let inv = c.loop-index.invariant in
     let k = storage g.H.HeightKind.wide g.H.HeightKind.reads in
     let bytes = c.args.bytes.now in
-    let i = c.loop-index.index in
-    let lt : i < length c.loop-index.records = omega arith in
-    elim c.match-read_at.branch [
-      | in-Ok w ↦
-          let j = joins k bytes i w.in-Ok.height inv.0 (sym w.in-Ok.ensures) in (
-            j.0,
-            c.match-read_at.auto.records ∙ inv.1,
-            ap (take (i + 1)) w.records-is ∙ take_more_set c.loop-index.records i (fresh w.in-Ok.height) lt ∙ ap (λ t. t ++ (fresh w.in-Ok.height ∷ [])) inv.2 ∙ sym (map_push fresh (heights_read k bytes i) w.in-Ok.height) ∙ ap (map fresh) (sym j.1),
-          )
-      | in_default w ↦ absurd (none_fails k bytes i (length c.args.records.now) w.in_default.field-0 (omega arith) c.requires.all_read inv.0 (sym w.in_default.ensures))
-    ]
+    let inv = c.loop-index.invariant in
+    let i = c.in-Some.index in
+    let height = c.unwrap-height.result in
+    let step = turn g.H.HeightKind.wide bytes c.loop-index.index-iterator c.next.new.self i c.in-Some.stored inv.at c.in-Some.ensures.steps in
+    let below : i < length c.loop-index.records = omega (arith, step.below (length c.args.records.now) g.met.H.HeightKind.narrow.0 c.requires.enough, inv.long) in
+    let before : is_ok (read_first k bytes i) ≡ true = subst (λ n. is_ok (read_first k bytes n) ≡ true) step.here inv.read in
+    let filled : take i c.loop-index.records ≡ map fresh (heights_read k bytes i) = subst (λ n. take n c.loop-index.records ≡ map fresh (heights_read k bytes n)) step.here inv.filled in
+    let read = joins k bytes i height before (ap k.reads step.chunk_is ∙ sym c.read_whole.ensures ∙ c.unwrap-height.ensures) in
+    record {
+      at = step.left;
+      read = ap (λ n. is_ok (read_first k bytes n)) step.next ∙ read.0;
+      long = length-set c.loop-index.records i (fresh height) ∙ inv.long;
+      filled = ap (λ n. take n (set c.loop-index.records i (fresh height))) step.next
+          ∙ take_more_set c.loop-index.records i (fresh height) below
+          ∙ ap (λ t. t ++ (fresh height ∷ [])) filled
+          ∙ sym (map_push fresh (heights_read k bytes i) height)
+          ∙ ap (map fresh) (sym read.1)
+          ∙ ap (λ n. map fresh (heights_read k bytes n)) (sym step.next);
+    }
 
 pub returns : goal.returns
 returns g c =
-    let all : c.loop-index.index ≡ length c.args.records.now = omega arith in
-    sym (take_all c.loop-index.index c.loop-index.records (omega (arith, c.loop-index.invariant.1))) ∙ c.loop-index.invariant.2 ∙ ap (λ n. map fresh (heights_read (storage g.H.HeightKind.wide g.H.HeightKind.reads) c.args.bytes.now n)) all
+    let inv = c.loop-index.invariant in
+    let all = all_came g.H.HeightKind.wide (length c.args.records.now) c.args.bytes.now c.loop-index.index-iterator c.next.new.self inv.at c.in-None.ensures.steps c.requires.enough in
+    sym (take_all (length c.args.records.now) c.loop-index.records (omega (arith, inv.long))) ∙ subst (λ n. take n c.loop-index.records ≡ map fresh (heights_read (storage g.H.HeightKind.wide g.H.HeightKind.reads) c.args.bytes.now n)) all inv.filled

@@ -1,10 +1,11 @@
-use Rattle.std.proofs.Common.{map}
-use Rattle.counters.specs.Calls.{Ran}
-use Rattle.sweep.specs.Inner.{terrain, call_of}
-use Rattle.sweep.specs.Walk.{columns_heights}
+use Rattle.std.proofs.Common.{◌-◌}
+use Rattle.sweep.specs.Inner.{terrain}
+use Rattle.sweep.specs.Walk.{column_heights}
+use Rattle.sweep.proofs.Runs.{Changed}
 use Rattle.sweep.proofs.column.change_columns.Given as goal
 
 abbrev pub invariant-loop-x : goal.invariant-loop-x
-invariant-loop-x g l =
-    (g.C.Counter.sound l.counter)
-    × Ran g.H.Height.not_higher (g.C.Counter.view l.initial.counter) (map (call_of l.change) (columns_heights (terrain l.band l.records) l.band.radius l.band.y l.start l.x)) (g.C.Counter.view l.counter)
+invariant-loop-x g l = record {
+  sound : g.C.Counter.sound l.counter;
+  ran : Changed g.H.Height.not_higher l.change (column_heights (terrain l.strip.band l.strip.records.now) l.strip.band.radius l.strip.band.y) l.start (l.x - l.start) (g.C.Counter.view l.initial.counter) (g.C.Counter.view l.counter);
+}
