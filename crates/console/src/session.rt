@@ -7,7 +7,7 @@ ghost use Rattle.siting_box.specs.Boxes.{box_contents};
 ghost use Rattle.siting_box.specs.Contents.{Counted};
 ghost use Rattle.console.specs.declared.session.NotDone.TheVariants.{Denied};
 ghost use Rattle.console.specs.Refusals.{question, refusal, answer_of};
-ghost use Rattle.console.specs.Sessions.{Carried, Served, Decodable, WrittenBy, ChosenBy};
+ghost use Rattle.console.specs.Sessions.{OpenCarried, AlterCarried, Carried, Served, Decodable, WrittenBy, ChosenBy};
 
 use crate::line::Line;
 use console_text::{Answer, Command, CounterLetter, KindLetter, parse, unhex};
@@ -96,6 +96,49 @@ fn decode<'a>(digits: &[u8], stored: &'a mut [u8; MOST_STORED]) -> &'a [u8]
     &stored[..count]
 }
 
+// Opens a plan whose stored heights are written as hexadecimal digits. It and `alter_height` are functions of their own, since the memory
+// for the decoded bytes is cleared where a function begins, and no other command needs it.
+fn open_plan<H: HeightKind>(
+    siting: &mut SitingBox<'_, H>,
+    width: u32,
+    rows: u32,
+    radius: u32,
+    digits: &[u8],
+) -> Result<Answer, NotDone<H::Cause>>
+    requires pairs { HexPairs digits.now }
+    requires short { length digits.now ≤ 9000 }
+    ensures carried { OpenCarried (storage H.HeightKind.wide H.HeightKind.reads) width rows radius digits.now (box_contents siting.old) (box_contents siting.new) (answer_of result) }
+    ensures counts { Counted H.Height.not_higher (box_contents siting.old) → Counted H.Height.not_higher (box_contents siting.new) }
+    ensures lent { siting.new.records.ghost_name ≡ siting.old.records.ghost_name }
+{
+    let mut stored = [0; MOST_STORED];
+    siting.open(
+        width as usize,
+        rows as usize,
+        radius as usize,
+        decode(digits, &mut stored),
+    )?;
+    Ok(Answer::Done)
+}
+
+// Gives a cell another stored height, written as hexadecimal digits.
+fn alter_height<H: HeightKind>(
+    siting: &mut SitingBox<'_, H>,
+    x: u32,
+    y: u32,
+    digits: &[u8],
+) -> Result<Answer, NotDone<H::Cause>>
+    requires pairs { HexPairs digits.now }
+    requires short { length digits.now ≤ 9000 }
+    ensures carried { AlterCarried (storage H.HeightKind.wide H.HeightKind.reads) H.Height.not_higher x y digits.now (box_contents siting.old) (box_contents siting.new) (answer_of result) }
+    ensures counts { Counted H.Height.not_higher (box_contents siting.old) → Counted H.Height.not_higher (box_contents siting.new) }
+    ensures lent { siting.new.records.ghost_name ≡ siting.old.records.ghost_name }
+{
+    let mut stored = [0; MOST_STORED];
+    siting.alter(place(x, y), decode(digits, &mut stored))?;
+    Ok(Answer::Done)
+}
+
 // Carries out a command on a box with a counter and tells what came of it.
 fn carry_out<H: HeightKind, C: Counter<Kind = H>>(
     siting: &mut SitingBox<'_, H>,
@@ -115,21 +158,8 @@ fn carry_out<H: HeightKind, C: Counter<Kind = H>>(
             rows,
             radius,
             digits,
-        } => {
-            let mut stored = [0; MOST_STORED];
-            siting.open(
-                width as usize,
-                rows as usize,
-                radius as usize,
-                decode(digits, &mut stored),
-            )?;
-            Ok(Answer::Done)
-        }
-        Command::Alter { x, y, digits } => {
-            let mut stored = [0; MOST_STORED];
-            siting.alter(place(x, y), decode(digits, &mut stored))?;
-            Ok(Answer::Done)
-        }
+        } => open_plan(siting, width, rows, radius, digits),
+        Command::Alter { x, y, digits } => alter_height(siting, x, y, digits),
         Command::Sweep => Ok(Answer::Steps(siting.sweep(counter)?)),
         Command::Tell { x, y } => {
             let told = siting.tell(place(x, y))?;

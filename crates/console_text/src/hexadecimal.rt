@@ -7,7 +7,7 @@ ghost use Rattle.console_text.specs.Hexadecimal.{HexDigit, HexPairs, hex_value, 
 fn is_hex_digit(byte: u8) -> bool
     ensures { Decides result (HexDigit byte) }
 {
-    matches!(byte, b'0'..=b'9' | b'A'..=b'F')
+    matches!(byte as char, '0'..='9' | 'A'..='F')
 }
 
 // The value of a hexadecimal digit.
@@ -16,7 +16,10 @@ fn hex_value(digit: u8) -> u8
     ensures value { result ≡ hex_value digit }
     ensures small { result < 16 }
 {
-    (digit as char).to_digit(16).unwrap() as u8
+    match digit {
+        b'0'..=b'9' => digit - b'0',
+        _ => digit - b'A' + 10,
+    }
 }
 
 // Whether a text is pairs of hexadecimal digits, at least one.

@@ -1,9 +1,8 @@
 //! A text in a fixed room.
 
-ghost use Rattle.std.specs.Prelude.{◌≡◌, ◌+◌, ◌*◌, ◌<◌, ◌≤◌, ◌↔◌, [], ◌∷◌, ◌++◌, length, map, decimal, IsOk, OnOk, OnErr};
+ghost use Rattle.std.specs.Prelude.{◌≡◌, ◌+◌, ◌*◌, ◌<◌, ◌≤◌, ◌↔◌, [], ◌∷◌, ◌++◌, length, map, take, replicate, decimal, IsOk, OnOk, OnErr};
 ghost use Rattle.console_text.specs.Words.{after_spaces};
 
-use itoa::Buffer;
 use std::marker::Model;
 
 // A text of at most `N` bytes; zeros stand after it, so that equal texts are equal buffers. It is not the kit's `ArrayVec`, which is not
@@ -39,6 +38,30 @@ impl<const N: usize> Model for TextBuffer<N> {
 #[derive(Clone, Copy, PartialEq, Eq, Debug)]
 pub struct Full;
 
+// Writes zeros over bytes.
+fn erase(bytes: &mut [u8])
+    ensures { bytes.new ≡ replicate (length bytes.old) 0 }
+{
+    bytes.fill(0);
+}
+
+// Writes the decimal digits of a number to the front, those of its tenth and then the last, and answers how many they are.
+fn write_decimal(room: &mut [u8], number: u64) -> usize
+    requires { 20 ≤ length room.old }
+    ensures digits { take result room.new ≡ decimal number }
+    ensures count { result ≡ length (decimal number) }
+    ensures few { result ≤ 20 }
+    ensures len { length room.new ≡ length room.old }
+{
+    let before = if number >= 10 {
+        write_decimal(room, number / 10)
+    } else {
+        0
+    };
+    room[before] = b'0' + (number % 10) as u8;
+    before + 1
+}
+
 impl<const N: usize> TextBuffer<N> {
     // A text of no bytes.
     pub fn new() -> Self
@@ -73,11 +96,12 @@ impl<const N: usize> TextBuffer<N> {
         Ok(())
     }
 
-    // Takes the text back.
+    // Takes the text back. Zeros take its place, so that this costs no more than the text did.
     pub fn clear(&mut self)
         ensures { self.new ≡ [] }
     {
-        *self = Self::new();
+        erase(&mut self.bytes[..self.len]);
+        self.len = 0;
     }
 
     // Writes more text after the text.
@@ -97,8 +121,9 @@ impl<const N: usize> TextBuffer<N> {
         ensures text { self.new ≡ self.old ++ decimal number }
         ensures short { length self.new ≤ length self.old + 20 }
     {
-        let mut digits = Buffer::new();
-        self.push_text(digits.format(number).as_bytes());
+        let mut digits = [0; 20];
+        let count = write_decimal(&mut digits, number);
+        self.push_text(&digits[..count]);
     }
 
     // Writes numbers after the text, each after a space.

@@ -31,8 +31,11 @@ fn wait_for_choice(
     rt: &HostRuntime,
     lines: &mut Lines,
 ) -> io::Result<Option<(KindLetter, CounterLetter)>> {
-    for line in lines {
-        if let Some(choice) = choose(&line?) {
+    for _ in 0..u64::MAX {
+        if !lines.read_line()? {
+            break;
+        }
+        if let Some(choice) = choose(lines.line()) {
             tell(rt, Answer::Done)?;
             return Ok(Some(choice));
         }
@@ -44,14 +47,17 @@ fn wait_for_choice(
 // Answers lines from a box over these records, with the flat layer over this counter.
 fn serve_lines<H: HeightKind, C: Counter<Kind = H> + Drop>(
     rt: &HostRuntime,
-    lines: Lines,
+    lines: &mut Lines,
     records: &mut [CellRecord<H>],
     counter: C,
 ) -> io::Result<()> {
     let mut siting = SitingBox::new(records);
     let mut layer = FlatLayer::over(counter);
-    for line in lines {
-        tell(rt, serve(&mut siting, &mut layer, &line?))?;
+    for _ in 0..u64::MAX {
+        if !lines.read_line()? {
+            break;
+        }
+        tell(rt, serve(&mut siting, &mut layer, lines.line()))?;
     }
     Ok(())
 }
@@ -59,7 +65,7 @@ fn serve_lines<H: HeightKind, C: Counter<Kind = H> + Drop>(
 // Serves heights of one kind, with 1,024 records and 1,024 places, all of this height as they are made.
 fn serve_kind<H: HeightKind>(
     rt: &HostRuntime,
-    lines: Lines,
+    lines: &mut Lines,
     counter: CounterLetter,
     height: H,
 ) -> io::Result<()>
@@ -86,9 +92,9 @@ fn serve_kind<H: HeightKind>(
 fn main(rt: HostRuntime) -> io::Result<()> {
     let mut lines = Lines::of(rt.stdin());
     match wait_for_choice(&rt, &mut lines)? {
-        Some((KindLetter::Whole, counter)) => serve_kind(&rt, lines, counter, 0i16),
+        Some((KindLetter::Whole, counter)) => serve_kind(&rt, &mut lines, counter, 0i16),
         Some((KindLetter::Float, counter)) => {
-            serve_kind(&rt, lines, counter, FloatBits { bits: 0 })
+            serve_kind(&rt, &mut lines, counter, FloatBits { bits: 0 })
         }
         None => Ok(()),
     }

@@ -31,7 +31,10 @@ impl Line {
     pub fn clear(&mut self)
         ensures { self.new ≡ Some [] }
     {
-        *self = Line::new();
+        match &mut self.text {
+            Some(text) => text.clear(),
+            None => *self = Line::new(),
+        }
     }
 
     // The bytes of the line, unless there were too many.
