@@ -15,6 +15,10 @@ pub mended_right : (counts counted : Bool) (n m : ℕ) → n ≤ 1048576 → m +
 mended_right counts counted n m few e = grind arith
 
 module _ {X : Type 0} {le : X → X → Bool} {old new : X} where
+  -- nothing is mended
+  pub mended_none : (P : ℕ → Type 0) (records : List (CellRecord X)) → ((i : ℕ) → P i → ⊥) → Mended le old new P records records
+  mended_none P records none = record { heights = refl; inside = λ i d p. absurd (none i p); others = λ i d out. refl }
+
   -- some counts are mended after others
   pub mended_then : (P Q R : ℕ → Type 0) {before during later : List (CellRecord X)}
       → ((i : ℕ) → P i → Q i → ⊥) → ((i : ℕ) → P i → R i) → ((i : ℕ) → Q i → R i) → ((i : ℕ) → R i → P i ⊎ Q i)

@@ -4,6 +4,7 @@ use Rattle.std.proofs.lemmas.List.{length-map, length-set, map-set, get_or-set_o
 use Rattle.std.proofs.lemmas.Bool.{cases_eq, cases_lt, cases_Bool, both_ways, and_parts, and_from}
 use Rattle.std.proofs.Math.Bool.{and_comm}
 use Rattle.std.proofs.lemmas.Bool.Decides.{nat_tests}
+use Rattle.std.proofs.lemmas.Nat.{mul-le}
 use Rattle.heights.specs.Tally.{tally}
 use Rattle.grid.specs.declared.Place.{Place}
 use Rattle.grid.specs.declared.Plan.{Plan}
@@ -32,6 +33,23 @@ reaches_yes r x y a b p q u v = and_from (near r x a) (near r y b) (near_yes r x
 -- how far away a cell in reach is
 pub near_parts : (r x a : ℕ) → near r x a ≡ true → (x - r ≤ a) × (a < x + r + 1)
 near_parts r x a e = (grind (arith, nat_tests), grind (arith, nat_tests))
+
+-- the part around a place lies in the grid
+pub around_lawful : (fitted : ℕ) (plan : Plan) (at : Place) (part : Part) (bottom : ℕ) → Alterable fitted plan at → part ≡ part_around plan at → bottom ≤ part.bottom
+    → (part.left ≤ part.right) × (part.right ≤ part.width) × (part.width ≤ 1024) × (bottom ≤ 1024)
+around_lawful fitted plan at part bottom ok e low =
+    let left = ap (λ (p : Part). p.left) e in
+    let right = ap (λ (p : Part). p.right) e in
+    let width = ap (λ (p : Part). p.width) e in
+    let end = ap (λ (p : Part). p.bottom) e in
+    (omega (arith, ok.column), omega arith, omega (arith, ok.wide), omega (arith, ok.deep))
+
+-- the cells of the part around a place have records
+pub around_fitted : (fitted : ℕ) (plan : Plan) (at : Place) (part : Part) (bottom : ℕ) → Alterable fitted plan at → part ≡ part_around plan at → bottom ≤ part.bottom → bottom * part.width ≤ fitted
+around_fitted fitted plan at part bottom ok e low =
+    let end = ap (λ (p : Part). p.bottom) e in
+    let under : bottom ≤ plan.rows = omega arith in
+    subst (λ (p : Part). bottom * p.width ≤ fitted) (sym e) (omega (arith, mul-le bottom plan.width plan.rows plan.width under (omega arith), ok.whole))
 
 -- the part that is mended is the one around the place, without the rows that are not swept
 pub mended_around : {X : Type 0} {le : X → X → Bool} {old new : X} {before after : List (CellRecord X)} (plan : Plan) (at : Place) (part : Part) (bottom : ℕ) → part ≡ part_around plan at → bottom ≡ min part.bottom plan.swept

@@ -1,6 +1,6 @@
 -- Sums of which one number changes, and tallies as sums.
-use Rattle.std.proofs.Common.{◌≡◌, ℕ, zero, suc, ◌+◌, ◌<◌, ◌≤◌, Bool, cond, List, [], ◌∷◌, map, length, refl, ap, ◌∙◌, ⊎_elim, eq-or-lt_of_le, arith}
-use Rattle.std.specs.List.{range_with_len, flat_map, filter}
+use Rattle.std.proofs.Common.{◌≡◌, ℕ, zero, suc, ◌+◌, ◌<◌, ◌≤◌, Bool, cond, List, map, refl, ap, ◌∙◌, ⊎_elim, eq-or-lt_of_le, arith}
+use Rattle.std.specs.List.{range_with_len, flat_map}
 use Rattle.heights.specs.Tally.{tally}
 use Rattle.heights.proofs.Tallying.{tally_append}
 use Rattle.sweep.proofs.Lists.{joined_next}
@@ -33,11 +33,6 @@ tally_range p a (suc n) = ap (λ k. cond (p a) 1 0 + k) (tally_range p (a + 1) n
 pub tally_map_range : {X : Type 0} (p : X → Bool) (f : ℕ → X) (a n : ℕ) → tally p (map f (range_with_len a n)) ≡ total (λ i. cond (p (f i)) 1 0) a n
 tally_map_range p f a zero = refl
 tally_map_range p f a (suc n) = ap (λ k. cond (p (f a)) 1 0 + k) (tally_map_range p f (a + 1) n)
-
--- what passes a test is as long as the tally
-pub length_filter : {X : Type 0} (p : X → Bool) (xs : List X) → length (filter p xs) ≡ tally p xs
-length_filter p [] = refl
-length_filter p (x ∷ xs) = grind (arith, length_filter p xs)
 
 -- the tally of the lists joined over n numbers, with that at the next
 pub joined_tally_next : (p : ℕ → Bool) (f : ℕ → List ℕ) (a n m y : ℕ) → y ≡ a + n → m ≡ n + 1 → tally p (flat_map f (range_with_len a m)) ≡ tally p (flat_map f (range_with_len a n)) + tally p (f y)

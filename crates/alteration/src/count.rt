@@ -9,15 +9,19 @@ use grid::CellRecord;
 use heights::height::Height;
 
 // How many cells of a row are not higher than a height.
+// It is a loop, since `filter(..).count()` is not compiled to vectors: alterations took a quarter more time with it.
 fn count_row<H: Height>(cells: &[CellRecord<H>], height: H) -> u32
     requires { length cells.now ≤ 1024 }
     ensures exact { result ≡ tally (λ c. H.Height.not_higher c.height height) cells.now }
     ensures few { result ≤ 1024 }
 {
-    cells
-        .iter()
-        .filter(|cell| cell.height.is_not_higher(height))
-        .count() as u32
+    let mut count = 0;
+    for cell in cells {
+        if cell.height.is_not_higher(height) {
+            count += 1;
+        }
+    }
+    count
 }
 
 // How many cells of a part are not higher than a height.
