@@ -1,10 +1,11 @@
 -- The distinct heights of a list: they are the same in lists that hold the same heights, and more in more heights.
-use Rattle.std.proofs.Common.{◌≡◌, ◌+◌, ◌<◌, ◌≤◌, Bool, true, false, cond, List, [], ◌∷◌, sym, refl, ap, ◌∙◌, arith}
+use Rattle.std.proofs.Common.{◌≡◌, ◌+◌, ◌<◌, ◌≤◌, Bool, true, false, cond, List, [], ◌∷◌, ◌++◌, length, sym, refl, ap, ◌∙◌, arith}
 use Rattle.std.proofs.lemmas.Bool.{both_ways, false≢true, false_from_ne_true}
 use Rattle.std.proofs.lemmas.Bool.Decides.{nat_tests}
 use Rattle.heights.specs.Order.{Preorder, level}
-use Rattle.counters.specs.Held.{Same, Blind, level_with, has_level, distinct}
+use Rattle.counters.specs.Held.{tally, Same, Blind, level_with, has_level, distinct}
 use Rattle.counters.proofs.Preorders.{equal_tests, level_parts, level_self, level_symmetric, level_transitive, blind_level, blind_level_of}
+use Rattle.counters.proofs.Tallies.{tally_le_length}
 
 -- ---- whether a list has a height level with h
 
@@ -111,3 +112,21 @@ same_distinct {le = le} o p bl xs ys s =
     let a = distinct_within o p bl xs ys (λ x t. sym (same_has_level o xs ys x s) ∙ t) in
     let b = distinct_within o p bl ys xs (λ x t. same_has_level o xs ys x s ∙ t) in
     omega arith
+
+-- a list has no fewer distinct heights with one more before it
+pub distinct_cons : {X : Type 0} (le : X → X → Bool) (p : X → Bool) (x : X) (xs : List X) → distinct le p xs ≤ distinct le p (x ∷ xs)
+distinct_cons le p x xs = omega arith
+
+-- a list has no fewer distinct heights with others before it
+pub distinct_append_left : {X : Type 0} (le : X → X → Bool) (p : X → Bool) (xs ys : List X) → distinct le p ys ≤ distinct le p (xs ++ ys)
+distinct_append_left le p [] ys = omega arith
+distinct_append_left le p (x ∷ xs) ys = omega (arith, distinct_append_left le p xs ys)
+
+-- the distinct heights that pass a test are no more than all that pass it
+pub distinct_le_tally : {X : Type 0} (le : X → X → Bool) (p : X → Bool) (xs : List X) → distinct le p xs ≤ tally p xs
+distinct_le_tally le p [] = omega arith
+distinct_le_tally le p (x ∷ xs) = grind (arith, nat_tests, distinct_le_tally le p xs)
+
+-- the distinct heights are no more than the heights
+pub distinct_le_length : {X : Type 0} (le : X → X → Bool) (p : X → Bool) (xs : List X) → distinct le p xs ≤ length xs
+distinct_le_length le p xs = omega (arith, distinct_le_tally le p xs, tally_le_length p xs)

@@ -1,9 +1,9 @@
 -- What the laws of an order of heights give: reflexivity, level heights, and the tests that do not tell level heights apart.
-use Rattle.std.proofs.Common.{◌≡◌, Bool, true, false, refl, ⊎_elim, arith}
+use Rattle.std.proofs.Common.{◌≡◌, Bool, true, false, not, refl, ap, ⊎_elim, arith}
 use Rattle.std.proofs.lemmas.Bool.{both_ways, and_parts, and_from}
 use Rattle.std.proofs.lemmas.Bool.Decides.{nat_tests}
 use Rattle.heights.specs.Order.{Preorder, level}
-use Rattle.counters.specs.Held.{Blind, between}
+use Rattle.counters.specs.Held.{Blind, above, between}
 
 -- two tests that follow from one another are equal
 pub equal_tests : (a b : Bool) → (a ≡ true → b ≡ true) → (b ≡ true → a ≡ true) → a ≡ b
@@ -60,6 +60,10 @@ blind_level {le = le} o h a b up down = let e = blind_up_to o h a b up down in l
 -- the test "h is level with it" does not tell level heights apart
 pub blind_level_of : {X : Type 0} {le : X → X → Bool} → Preorder le → (h : X) → Blind le (λ x. level le h x)
 blind_level_of {le = le} o h a b up down = let e = blind_up_to o h a b up down in let f = blind_from o h a b up down in cc
+
+-- the test "above h" does not tell level heights apart
+pub blind_above : {X : Type 0} {le : X → X → Bool} → Preorder le → (h : X) → Blind le (above le h)
+blind_above o h a b up down = ap not (blind_up_to o h a b up down)
 
 -- the test "above the lower of two heights and not above the higher" does not tell level heights apart
 pub blind_between : {X : Type 0} {le : X → X → Bool} → Preorder le → (c d : X) → Blind le (between le c d)

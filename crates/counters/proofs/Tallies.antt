@@ -1,5 +1,5 @@
 -- Tallies of lists, and lists that hold the same heights.
-use Rattle.std.proofs.Common.{◌≡◌, ℕ, ◌<◌, Bool, true, cond, List, ◌∷◌, length, sym, refl, ap, ◌∙◌, arith}
+use Rattle.std.proofs.Common.{◌≡◌, ℕ, ◌<◌, Bool, true, cond, List, ◌∷◌, ◌++◌, length, sym, refl, ap, ◌∙◌, arith}
 use Rattle.heights.specs.Order.{Preorder, level}
 pub use Rattle.heights.proofs.Tallying.{tally_append, tally_always, tally_le_length}
 use Rattle.counters.specs.Held.{tally, Same, up_to, level_with}
@@ -25,12 +25,41 @@ same_equal le e = record { tallies = λ p b. ap (tally p) e }
 pub same_cons : {X : Type 0} {le : X → X → Bool} {xs ys : List X} (h : X) → Same le xs ys → Same le (h ∷ xs) (h ∷ ys)
 same_cons h s = record { tallies = λ p b. omega (arith, s.tallies p b) }
 
+-- one height less on both sides
+pub same_uncons : {X : Type 0} {le : X → X → Bool} {xs ys : List X} (h : X) → Same le (h ∷ xs) (h ∷ ys) → Same le xs ys
+same_uncons h s = record { tallies = λ p b. omega (arith, s.tallies p b) }
+
 -- level heights in each other's place
 pub same_level : {X : Type 0} (le : X → X → Bool) (a b : X) (xs : List X) → level le a b ≡ true → Same le (a ∷ xs) (b ∷ xs)
 same_level {X} le a b xs e =
     let u = level_parts le a b e in
     let f : Bool → ℕ = λ t. cond t 1 0 in
     record { tallies = λ p bl. omega (arith, ap f (bl a b u.0 u.1)) }
+
+-- the first two heights change places
+pub same_swap : {X : Type 0} (le : X → X → Bool) (a b : X) (xs : List X) → Same le (a ∷ b ∷ xs) (b ∷ a ∷ xs)
+same_swap le a b xs = record { tallies = λ p bl. omega arith }
+
+-- the same heights followed by the same
+pub same_append : {X : Type 0} {le : X → X → Bool} {xs ys us vs : List X} → Same le xs ys → Same le us vs → Same le (xs ++ us) (ys ++ vs)
+same_append {xs = xs} {ys = ys} {us = us} {vs = vs} s t =
+    record { tallies = λ p b. omega (arith, s.tallies p b, t.tallies p b, tally_append p xs us, tally_append p ys vs) }
+
+-- the same heights after a list
+pub same_append_left : {X : Type 0} {le : X → X → Bool} {us vs : List X} (xs : List X) → Same le us vs → Same le (xs ++ us) (xs ++ vs)
+same_append_left {le = le} xs s = same_append (same_refl le xs) s
+
+-- the same heights before a list
+pub same_append_right : {X : Type 0} {le : X → X → Bool} {xs ys : List X} (us : List X) → Same le xs ys → Same le (xs ++ us) (ys ++ us)
+same_append_right {le = le} us s = same_append s (same_refl le us)
+
+-- two lists in a row hold the same in either order
+pub same_append_swap : {X : Type 0} (le : X → X → Bool) (xs ys : List X) → Same le (xs ++ ys) (ys ++ xs)
+same_append_swap le xs ys = record { tallies = λ p b. omega (arith, tally_append p xs ys, tally_append p ys xs) }
+
+-- a height between two lists may stand before both
+pub same_middle : {X : Type 0} (le : X → X → Bool) (xs : List X) (h : X) (ys : List X) → Same le (xs ++ h ∷ ys) (h ∷ (xs ++ ys))
+same_middle le xs h ys = record { tallies = λ p b. omega (arith, tally_append p xs (h ∷ ys), tally_append p xs ys) }
 
 -- the same heights are equally many
 pub same_length : {X : Type 0} (le : X → X → Bool) (xs ys : List X) → Same le xs ys → length xs ≡ length ys

@@ -77,6 +77,17 @@ stops_full {X} {le} o es used i h room under full d j h₁ h₂ =
     let pos : i ≡ 0 → ⊥ = λ z. both_ways _ (np_end le (height_at es d) i hj z) on in
     o.transitive hj _ h (sym (np_at le (height_at es d) i hj pos) ∙ on) (under d pos) ∙ sym on
 
+-- a walk down stops where h stands: at an entry that is not higher, or at the end
+pub stops_down : {X : Type 0} {le : X → X → Bool} (o : Preorder le)
+    (es : List (Entry X)) (used : ℕ) (i : ℕ) (h : X) → NotUnder le es used i h → NotOver le es i h → StandsAt le es used h i
+stops_down {le = le} o es used i h over under d j h₁ h₂ =
+    let hj = height_at es d j in
+    equal_tests _ _
+    (λ q. true_from_ne_false _ (λ off. both_ways _ (over d j h₁ h₂ off) q))
+    (λ q.
+    let pos : i ≡ 0 → ⊥ = λ z. both_ways _ (np_end le (height_at es d) i hj z) q in
+    o.transitive hj _ h (sym (np_at le (height_at es d) i hj pos) ∙ q) (under d pos))
+
 -- a walk down that has passed all entries is where h stands
 pub stops_none : {X : Type 0} (le : X → X → Bool)
     (es : List (Entry X)) (used : ℕ) (i : ℕ) (h : X) → used ≤ length es - 1 → NotUnder le es used i h
@@ -95,6 +106,10 @@ pub still_over : {X : Type 0} {le : X → X → Bool} (o : Preorder le)
 still_over {le = le} o es used a i h pos high cut d j h₁ h₂ off =
     let hj = height_at es d j in
     false_from_ne_true _ (λ q. both_ways _ (high d) (o.transitive _ hj h (sym (ow_at le (height_at es d) i hj pos) ∙ cut d j h₁ h₂ ∙ ap not off) q))
+
+-- a walk that has not begun
+pub went_none : {X : Type 0} (le : X → X → Bool) (es : List (Entry X)) (used a : ℕ) → Went le es used a a 0 0
+went_none le es used a = record { ranks = λ d. omega arith; counts = λ d. omega arith }
 
 -- a walk up grows by one step
 pub went_up : {X : Type 0} {le : X → X → Bool} (o : Preorder le)

@@ -5,7 +5,7 @@ use Rattle.std.proofs.lemmas.List.Sums.{sum_by-cons}
 use Rattle.std.proofs.lemmas.Bool.{cond_both}
 use Rattle.heights.specs.Order.{Preorder}
 use Rattle.counters.specs.Held.{up_to, level_with}
-use Rattle.counters.specs.Calls.{Did, Steps, put, take, ask, rule_after, places_of, mileage_after}
+use Rattle.counters.specs.Calls.{View, fingers, begun, Did, Steps, put, take, ask, rule_after, places_of, mileage_after}
 use Rattle.counters.proofs.Preorders.{blind_up_to}
 use Rattle.counters.proofs.Tallies.{same_refl, held_level, tally_le_length}
 use Rattle.finger_list.specs.declared.change.Spot.{Spot}
@@ -14,13 +14,23 @@ use Rattle.finger_list.specs.declared.finger.Finger.{Finger}
 use Rattle.finger_list.specs.declared.finger.Fingers.{Fingers}
 use Rattle.finger_list.specs.declared.walk.Way.{Way}
 use Rattle.finger_list.specs.Entries.{in_use, number_at, held_in, Positive}
-use Rattle.finger_list.specs.Linking.{Linked, StandsAt}
+use Rattle.finger_list.specs.Linking.{Linked, InOrder, StandsAt}
 use Rattle.finger_list.specs.Hands.{LinksIn, count_of, AllStand, Counted, followed_link, left_link, after_put, after_take, after_ask, counted_up}
 use Rattle.finger_list.specs.Walking.{part, many, weighs, Arrived}
 use Rattle.finger_list.specs.Changes.{Grown, Shrunk}
 use Rattle.finger_list.specs.Views.{rule_of, shown, Inside, Back, Forth, Tidy, Fit}
 use Rattle.finger_list.proofs.Weights.{length_used, at_used}
 use Rattle.finger_list.proofs.Distances.{length_held}
+
+-- the links of a tidy memory, in one fact
+pub linked_of : {X : Type 0} (es : List (Entry X)) (used : ℕ) → Inside es used → Back es used → Forth es used → Linked es used
+linked_of es used a b f = (
+  a.0,
+  a.1,
+  λ i d lo lt.
+      let m : i < min (used + 1) (length es) = omega arith in
+      (a.2 i d m, a.3 i d m, a.4 i d m, b i d m, f i d m),
+)
 
 -- the links of a tidy memory, fact by fact
 pub inside_of : {X : Type 0} (es : List (Entry X)) (used : ℕ) → Linked es used → Inside es used
@@ -39,6 +49,10 @@ back_of es used l i d m = (l.2 i d (omega arith) (omega arith)).3
 -- the link down of a link up, from the links in one fact
 pub forth_of : {X : Type 0} (es : List (Entry X)) (used : ℕ) → Linked es used → Forth es used
 forth_of es used l i d m = (l.2 i d (omega arith) (omega arith)).4
+
+-- the links of a tidy memory
+pub tidy_linked : {X : Type 0} (es : List (Entry X)) (used held : ℕ) (f : Option (Fingers X)) → Tidy es used held f → Linked es used
+tidy_linked es used held f t = linked_of es used t.0 t.1 t.2
 
 -- the numbers of a tidy memory
 pub tidy_positive : {X : Type 0} (es : List (Entry X)) (used held : ℕ) (f : Option (Fingers X)) → Tidy es used held f → Positive es used
@@ -263,6 +277,23 @@ did_take {le = le} o es gs used held m f h way spot t low w fit a =
       },
     )
 
+-- after an ask the fingers lead to entries in use
+links_ask : {X : Type 0} (f : Option (Fingers X)) (link used count : ℕ) (h : X) → link ≤ used
+    → LinksIn f used → LinksIn (option_map (λ g. after_ask g link h count) f) used
+links_ask None link used count h low ins = ins
+links_ask (Some f) link used count h low ins = (ins.0, ins.1, low)
+
+-- after an ask no more is counted than held
+count_ask : {X : Type 0} (f : Option (Fingers X)) (link count held : ℕ) (h : X) → count ≤ held → count_of (option_map (λ g. after_ask g link h count) f) ≤ held
+count_ask None link count held h low = omega arith
+count_ask (Some f) link count held h low = low
+
+-- after an ask the memory is tidy
+pub tidy_ask : {X : Type 0} (es : List (Entry X)) (used held link count : ℕ) (f : Option (Fingers X)) (h : X)
+    → Tidy es used held f → link ≤ used → count ≤ held → Tidy es used held (option_map (λ g. after_ask g link h count) f)
+tidy_ask es used held link count f h t low few =
+    (t.0, t.1, t.2, (t.3.0, t.3.1, t.3.2, links_ask f link used count h low t.3.3, count_ask f link count held h few))
+
 -- the count after a finger has gone up or down
 moved_up_to : (b : Bool) (c passed u v k : ℕ) → c ≡ u → (b ≡ true → v ≡ u + passed) → (b ≡ false → u ≡ v + passed) → v ≤ k
     → min (cond b (c + passed) (c - passed)) k ≡ v
@@ -316,6 +347,43 @@ did_ask le es used held m count f h way t low a =
       few = omega (arith, used_le_held es used held f t, t.3.2);
       exact = exact_ask le es used f h way a;
     }
+
+-- a memory of which no entry is in use is tidy
+pub tidy_none : {X : Type 0} (es : List (Entry X)) (f : Option (Fingers X)) → Linked es 0 → LinksIn f 0 → count_of f ≤ 0 → Tidy es 0 0 f
+tidy_none es f l ins small = tidy_of es 0 0 f l (λ i d p lo. absurd (omega arith)) refl (omega arith) ins small
+
+-- no entries are in order
+none_in_order : {X : Type 0} (le : X → X → Bool) (es : List (Entry X)) → InOrder le es 0
+none_in_order le es d = record { up = λ i l j p lj. absurd (omega arith); apart = λ i j pi li pj lj q₁ q₂. absurd (omega arith) }
+
+-- the fingers where begin lets them stand
+abbrev pub started : {X : Type 0} → X → X → Fingers X
+started first asked =
+    record { put = record { height = first; link = 0 }; take = record { height = first; link = 0 }; ask = record { height = asked; link = 0 }; count = 0 }
+
+-- the fingers of begin lead to the end
+pub links_begun : {X : Type 0} (first asked : X) → LinksIn (Some (started first asked)) 0
+links_begun first asked = (omega arith, omega arith, omega arith)
+
+-- with no entry in use each height stands at the end
+stands_none : {X : Type 0} (le : X → X → Bool) (es : List (Entry X)) (p : X) → StandsAt le es 0 p 0
+stands_none le es p d j pos lj = absurd (omega arith)
+
+-- with no entry in use the fingers of begin stand at the end
+stands_begun : {X : Type 0} (le : X → X → Bool) (es : List (Entry X)) (first asked : X) → AllStand le es 0 (Some (started first asked))
+stands_begun le es first asked = record { put = stands_none le es first; take = stands_none le es first; ask = stands_none le es asked }
+
+-- with no entry in use the fingers stand at any heights
+pub fit_begun : {X : Type 0} (le : X → X → Bool) (es : List (Entry X)) (first asked : X) → Fit le es 0 (Some (started first asked))
+fit_begun le es first asked = record { order = none_in_order le es; stands = stands_begun le es first asked; counted = refl }
+
+-- what a list shows that has begun
+pub shown_begun : {X : Type 0} (es gs : List (Entry X)) (used m : ℕ) (f : Option (Fingers X)) (first asked : X) → length gs ≡ length es
+    → shown gs 0 0 (Some (started first asked)) ≡ begun (shown es used m f) first asked
+shown_begun {X} es gs used m None first asked e =
+    let V : ℕ → View X = λ n. record { held = []; places = places_of n; mileage = 0; rule = fingers first first asked } in ap V e
+shown_begun {X} es gs used m (Some f) first asked e =
+    let V : ℕ → View X = λ n. record { held = []; places = places_of n; mileage = 0; rule = fingers first first asked } in ap V e
 
 -- what `map` returns, where the closure does what a function says
 pub mapped : {A B : Type 0} {P : A → B → Type 0} (k : A → B) (o : Option A) (r : Option B) → MatchOption o (r ≡ None) (λ x. IsSomeAnd r (P x))

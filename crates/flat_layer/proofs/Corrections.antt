@@ -10,15 +10,31 @@ use Rattle.flat_layer.specs.Layers.{ask_finger, rule_over, view_over, AskedAt, R
 
 -- ---- put and take leave the ask finger
 
+finger_put : {X : Type 0} (le : X → X → Bool) (h : X) (places : ℕ) (last : Option (Remembered X)) (a : X) → ask_finger a (after_put le h places last) ≡ ask_finger a last
+finger_put le h places None a = refl
+finger_put le h places (Some m) a = refl
+
 finger_take : {X : Type 0} (le : X → X → Bool) (h : X) (last : Option (Remembered X)) (a : X) → ask_finger a (after_take le h last) ≡ ask_finger a last
 finger_take le h None a = refl
 finger_take le h (Some m) a = refl
+
+rule_put : {X : Type 0} (r : StepRule X) (h : X) (last new : Option (Remembered X)) → ((a : X) → ask_finger a new ≡ ask_finger a last) → rule_over new (rule_after r (put h)) ≡ rule_after (rule_over last r) (put h)
+rule_put unstated h last new e = refl
+rule_put shifting h last new e = refl
+rule_put waiting h last new e = refl
+rule_put (fingers p t a) h last new e = ap (λ x. fingers h t x) (e a)
 
 rule_take : {X : Type 0} (r : StepRule X) (h : X) (last new : Option (Remembered X)) → ((a : X) → ask_finger a new ≡ ask_finger a last) → rule_over new (rule_after r (take h)) ≡ rule_after (rule_over last r) (take h)
 rule_take unstated h last new e = refl
 rule_take shifting h last new e = refl
 rule_take waiting h last new e = refl
 rule_take (fingers p t a) h last new e = ap (λ x. fingers p h x) (e a)
+
+steps_put : {X : Type 0} (le : X → X → Bool) (r : StepRule X) (h : X) (last : Option (Remembered X)) (held : List X) (n : ℕ) → Steps le r held (put h) n → Steps le (rule_over last r) held (put h) n
+steps_put le unstated h last held n s = tt
+steps_put le shifting h last held n s = s
+steps_put le waiting h last held n s = tt
+steps_put le (fingers p t a) h last held n s = s
 
 steps_take : {X : Type 0} (le : X → X → Bool) (r : StepRule X) (h : X) (last : Option (Remembered X)) (held : List X) (n : ℕ) → Steps le r held (take h) n → Steps le (rule_over last r) held (take h) n
 steps_take le unstated h last held n s = tt
@@ -39,6 +55,19 @@ asked_take le waiting h m s = tt
 asked_take le (fingers p t a) h m s = s
 
 -- ---- what the layer shows
+
+-- an accepted put below is one of the layer
+pub did_put : {X : Type 0} (le : X → X → Bool) (v u : View X) (h : X) (steps places : ℕ) (last new : Option (Remembered X)) → new ≡ after_put le h places last
+    → Did le v (put h) steps u → Did le (view_over last v) (put h) steps (view_over new u)
+did_put le v u h steps places last new e d =
+    record {
+      held = d.held;
+      places = d.places;
+      mileage = d.mileage;
+      rule = ap (rule_over new) d.rule ∙ rule_put v.rule h last new (λ a. ap (ask_finger a) e ∙ finger_put le h places last a);
+      few = d.few;
+      exact = steps_put le v.rule h last v.held steps d.exact;
+    }
 
 -- an accepted take below is one of the layer
 pub did_take : {X : Type 0} (le : X → X → Bool) (v u : View X) (h : X) (steps : ℕ) (last new : Option (Remembered X)) → new ≡ after_take le h last

@@ -1,5 +1,5 @@
 -- Two boxes that are called alike show the same after each call.
-use Rattle.std.proofs.Common.{◌≡◌, ℕ, suc, ◌<◌, Bool, List, [], ◌∷◌, length, Some, sym, refl, ap, ◌∙◌, subst, arith}
+use Rattle.std.proofs.Common.{◌≡◌, ℕ, suc, ◌<◌, Bool, List, [], ◌∷◌, ◌++◌, length, Some, sym, refl, ap, ◌∙◌, subst, arith}
 use Rattle.std.proofs.lemmas.Option.{same_Some}
 use Rattle.std.specs.List.{slice_get}
 use Rattle.heights.specs.Meaning.{Storage}
@@ -102,3 +102,12 @@ matched_runs k k' le le' records records' calls calls' places places' sights sig
 pub boxes_agree : {X C Y D : Type 0} (k : Storage X C) (k' : Storage Y D) (le : X → X → Bool) (le' : Y → Y → Bool) → BoxesAgree k k' le le'
 boxes_agree k k' le le' records records' calls calls' places places' sights sights' last last' fitted m equal r r' =
     (matched_runs k k' le le' records records' calls calls' places places' sights sights' last last' fitted m equal r r').seen
+
+-- a run and one call more
+pub run_push : {X C : Type 0} (k : Storage X C) (le : X → X → Bool) (calls : List Call) (places : List ℕ) (sights : List Sight) (b last after : Contents X) (c : Call) (n : ℕ) (s : Sight) → Run k le b calls places sights last → Turn k le c n last after s → Run k le b (calls ++ c ∷ []) (places ++ n ∷ []) (sights ++ s ∷ []) after
+run_push k le [] [] [] b last after c n s r t = (after, subst (λ start. Turn k le c n start after s) r t, refl)
+run_push k le [] [] (s₀ ∷ sights) b last after c n s r t = absurd r
+run_push k le [] (n₀ ∷ places) sights b last after c n s r t = absurd r
+run_push k le (c₀ ∷ calls) [] sights b last after c n s r t = absurd r
+run_push k le (c₀ ∷ calls) (n₀ ∷ places) [] b last after c n s r t = absurd r
+run_push k le (c₀ ∷ calls) (n₀ ∷ places) (s₀ ∷ sights) b last after c n s r t = (r.0, r.1, run_push k le calls places sights r.0 last after c n s r.2 t)

@@ -3,7 +3,7 @@ use Rattle.std.proofs.Common.{◌≡◌, ℕ, zero, suc, ◌+◌, ◌<◌, ◌�
 use Rattle.std.specs.List.{prefix_len, take_while}
 use Rattle.std.proofs.lemmas.List.{get_or-take, get_or-drop, length-drop}
 use Rattle.std.proofs.lemmas.List.Folds.{length-prefix_len}
-use Rattle.std.proofs.lemmas.List.Sums.{sum_by-cons, sum_by-le, sum_by-take-drop, sum_by-take-le, get_or-le-sum_by, prefix_len_passes}
+use Rattle.std.proofs.lemmas.List.Sums.{sum_by-cons, sum_by_more, sum_by-le, sum_by-take-drop, sum_by-take-le, get_or-le-sum_by, prefix_len_passes}
 use Rattle.counters.specs.Held.{tally}
 use Rattle.counters.proofs.Tallies.{tally_append, tally_always}
 use Rattle.shift_array.specs.declared.entry.Entry.{Entry}
@@ -53,6 +53,17 @@ entries_le_heights (e ∷ es) pos =
       sum_by-cons (weight (λ _. true)) e es,
       entries_le_heights es (λ i d l. pos (suc i) d (omega arith)),
     )
+
+-- one entry more, whose height passes the test
+pub tally_more : {X : Type 0} (p : X → Bool) (es : List (Entry X)) (i : ℕ) (x : Entry X) → i < length es → x ≡ get_or es i x → p x.height ≡ true
+    → tally p (heights (take (i + 1) es)) ≡ tally p (heights (take i es)) + x.number
+tally_more {X} p es i x lt is passes =
+    let f : Bool → ℕ = λ b. cond b x.number 0 in
+    omega (arith, tally_heights p (take (i + 1) es), tally_heights p (take i es), sum_by_more (weight p) es i x lt, ap (weight p) is, ap f passes)
+
+-- the tally of the first entries is at most the number of all heights
+pub tally_part : {X : Type 0} (p : X → Bool) (es : List (Entry X)) (i : ℕ) → tally p (heights (take i es)) ≤ tally p (heights es)
+tally_part p es i = omega (arith, tally_heights p (take i es), tally_heights p es, sum_by-take-le (weight p) es i)
 
 -- numbers that are all 0 add up to 0
 pub sum_none : {X : Type 0} (f : X → ℕ) (xs : List X) → ((k : ℕ) (d : X) → k < length xs → f (get_or xs k d) ≡ 0) → sum_by f xs ≡ 0

@@ -75,6 +75,12 @@ there [] i h = absurd (omega arith)
 there (x ∷ xs) zero h = (x, refl, λ d. refl)
 there (x ∷ xs) (suc i) h = there xs i (omega arith)
 
+-- a cell of the plan has a record
+pub cell_recorded : (p : Plan) (fitted x y : ℕ) → fits_in p fitted ≡ true → x < p.width → y < p.rows → y * p.width + x < fitted
+cell_recorded p fitted x y e column row =
+    let facts = fitting p fitted e in
+    omega (arith, facts.recorded, mul-add-lt y p.width x p.rows row column)
+
 -- two values that are there are equal
 pub same_some : (a b : ℕ) → Some a ≡ Some b → a ≡ b
 same_some a b e = cc

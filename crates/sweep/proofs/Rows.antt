@@ -87,3 +87,7 @@ progress_end le t r y x before after old new first asked u mileage wide iny end 
       ran = subst (λ v. Ran le v (flat_map (turn_calls t r y) (range_with_len 0 w)) new) begins (subst (λ k. Ran le u (flat_map (turn_calls t r y) (range_with_len 0 k)) new) end p.ran);
       held = same_trans p.held (same_trans (same_sym held) (same_window le t r (w - 1) y (omega arith) iny));
     }
+
+-- a sweep keeps the places
+pub swept_places : {X : Type 0} {le : X → X → Bool} {t : Terrain X} {r y : ℕ} {before after : List (CellRecord X)} {old new : View X} {mileage : ℕ} → Swept le t r y before after old new mileage → new.places ≡ old.places
+swept_places s = ran_places s.ran

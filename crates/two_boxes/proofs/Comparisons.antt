@@ -4,6 +4,7 @@ use Rattle.std.specs.List.{slice_get}
 use Rattle.std.proofs.lemmas.Option.{slice_get_within, get_or_from_slice_get}
 use Rattle.std.proofs.lemmas.List.{take_more, length-map, length-append, length-take-le, map_push, set_at, drop_more, take_at, take-append-le, append_assoc}
 use Rattle.std.proofs.lemmas.Bool.{true≢false}
+use Rattle.std.proofs.lemmas.Bool.Decides.{nat_tests}
 use Rattle.heights.specs.Meaning.{Storage}
 use Rattle.heights.specs.Order.{Preorder}
 use Rattle.counters.specs.Calls.{View}
@@ -19,10 +20,20 @@ use Rattle.runs.specs.Running.{new_box}
 use Rattle.two_boxes.specs.Running.{Event, Turn, TookTurn, counters_after, Trace, Traced}
 use Rattle.runs.specs.Pointwise.{Pointwise}
 use Rattle.two_boxes.specs.Agreeing.{less_steps, Shared, Partnered, TwoBoxes}
-use Rattle.two_boxes.specs.Comparing.{LookAlike, FirstApart, apart_after, verdict, BothCalled, RanBoth}
+use Rattle.two_boxes.specs.Comparing.{comparable, Comparables, LookAlike, FirstApart, apart_after, verdict, BothCalled, RanBoth}
 use Rattle.runs.proofs.Couples.{both_push, both_length}
 use Rattle.two_boxes.proofs.Traces.{matched_traces}
 use Rattle.two_boxes.proofs.Whole.{sweeps_bounded}
+
+-- what two lists that can be compared have
+pub comparables : (calls calls' counters counters' room room' : ℕ) → comparable calls calls' counters counters' room room' ≡ true → Comparables calls calls' counters counters' room room'
+comparables calls calls' counters counters' room room' e = record {
+  same_calls = grind (arith, nat_tests);
+  some_counter = grind (arith, nat_tests);
+  some_counter' = grind (arith, nat_tests);
+  enough = grind (arith, nat_tests);
+  enough' = grind (arith, nat_tests);
+}
 
 -- ---- one trace
 

@@ -1,3 +1,4 @@
+pub mod Accepted
 pub mod Comparisons
 pub mod Miles
 pub mod Places
