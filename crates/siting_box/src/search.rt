@@ -2,7 +2,7 @@
 ghost use Rattle.std.specs.Prelude.{◌≡◌, ℕ, ◌*◌, ◌^◌, ◌<◌, ◌≤◌, map, length, slice_index_or};
 ghost use Rattle.grid.specs.Terrain.{heights_of};
 ghost use Rattle.grid.specs.Nearest.{Nearest, squared_distance};
-ghost use Rattle.siting_box.specs.Searching.{place_of};
+ghost use Rattle.siting_box.specs.Searching.{place_of, nearer_of};
 
 use grid::{CellRecord, Higher, Place, Plan};
 use heights::height::Height;
@@ -29,7 +29,18 @@ fn squared_distance(from: Place, to: Place) -> u64
     columns * columns + rows * rows
 }
 
+// The nearer of the best so far and a cell that comes later in reading order.
+fn nearer(best: Option<Higher>, later: Higher) -> Option<Higher>
+    ensures { result ≡ nearer_of best later }
+{
+    match best {
+        Some(found) if found.distance <= later.distance => best,
+        _ => Some(later),
+    }
+}
+
 // The nearest cell of a grid that is strictly higher than the one at a place.
+// It is a loop, since a chain with `min_by_key`, or with `fold`, takes a fifth more time or more.
 pub(crate) fn nearest<H: Height>(
     records: &[CellRecord<H>],
     plan: Plan,
@@ -41,20 +52,13 @@ pub(crate) fn nearest<H: Height>(
     ensures { Nearest H.Height.not_higher (record { width = plan.width; rows = plan.rows; heights = heights_of records.now }) from result }
 {
     let own = records[from.y * plan.width + from.x].height;
-    records
-        .iter()
-        .enumerate()
-        .filter(|(_, record)| !record.height.is_not_higher(own))
-        .map(
-            |(index, _)|
-                requires { (from.x < plan.width) × (from.x < 2 ^ 20) × (from.y < 2 ^ 20) × (index < 2 ^ 20) }
-            {
-                let place = place_of(plan.width, index);
-                Higher {
-                    place,
-                    distance: squared_distance(from, place),
-                }
-            },
-        )
-        .min_by_key(|higher| higher.distance)
+    let mut best = None;
+    for (index, record) in records.iter().enumerate() {
+        if !record.height.is_not_higher(own) {
+            let place = place_of(plan.width, index);
+            let distance = squared_distance(from, place);
+            best = nearer(best, Higher { place, distance });
+        }
+    }
+    best
 }
